@@ -1,0 +1,76 @@
+-- Costs that no packing goes below, and a cost that one packing has.
+use Rattle.std.specs.Prelude.{zero, suc, ◌≡◌, ℕ, ◌+◌, ◌-◌, ◌*◌, ◌/◌, ◌<◌, ◌≤◌, List, [], ◌∷◌, length, Bool, true, false, Option, Some, None, map, filter, All, is_none, ◌&&◌, min, max, sum_by, nat_lt, nat_le, if◌then◌else◌, slice_index}
+use Rattle.std.specs.List.{list_all, list_any, zip}
+use Rattle.packing_laws.specs.declared.instances.BinType.{BinType}
+use Rattle.packing_laws.specs.declared.instances.Item.{Item}
+use Rattle.packing_laws.specs.Instances.{InstanceValue}
+use Rattle.packing_laws.specs.Packings.{Bins, Content, IsPacking, IsFloor, HasNoPacking, cost_of, count_of_item}
+
+-- the least of some numbers, 0 where there are none
+abbrev pub least_of : List ℕ → ℕ
+least_of [] = 0
+least_of (x ∷ []) = x
+least_of (x ∷ y ∷ ys) = min x (least_of (y ∷ ys))
+
+-- the greatest of some numbers, 0 where there are none
+abbrev pub greatest_of : List ℕ → ℕ
+greatest_of [] = 0
+greatest_of (x ∷ xs) = max x (greatest_of xs)
+
+-- the numbers from 1 to n, downwards
+abbrev pub numbers_to : ℕ → List ℕ
+numbers_to zero = []
+numbers_to (suc n) = suc n ∷ numbers_to n
+
+-- a / b, rounded up
+abbrev pub div_up : ℕ → ℕ → ℕ
+div_up a b = (a + (b - 1)) / b
+
+-- what all units weigh at least in dimension d, each in its lightest form there
+abbrev pub material_in : InstanceValue → ℕ → ℕ
+material_in I d = sum_by (λ x. x.demand * least_of (map (λ v. slice_index v (d - 1)) x.forms)) I.items
+
+-- the least cost at which bins of one type alone, taken in parts, would hold that much in dimension d: it is the
+-- type with the most room for its cost. 0 where no type has room there, or one has it for nothing
+abbrev pub floor_in : InstanceValue → ℕ → ℕ
+floor_in I d = least_of (map (λ t. div_up (material_in I d * t.cost) (slice_index t.cap (d - 1))) (filter (λ t. nat_lt 0 (slice_index t.cap (d - 1))) I.types))
+
+-- the material bound: the greatest of these costs over the dimensions
+abbrev pub material_of : InstanceValue → ℕ
+material_of I = greatest_of (map (floor_in I) (numbers_to I.dims))
+
+-- no number of the vector passes that of the capacity
+abbrev pub vector_fits : List ℕ → List ℕ → Bool
+vector_fits v cap = list_all (λ p. nat_le p.0 p.1) (zip v cap)
+
+-- some form of the item fits the type
+abbrev pub item_fits : Item → BinType → Bool
+item_fits x t = list_any (λ v. vector_fits v t.cap) x.forms
+
+-- each item with a demand has a form that fits some type
+abbrev pub HasPlaces : InstanceValue → Type 0
+HasPlaces I = All (λ x. 0 < x.demand → list_any (item_fits x) I.types ≡ true) I.items
+
+-- the costs of the types without limit that some form of the item fits
+abbrev pub single_costs : InstanceValue → Item → List ℕ
+single_costs I x = map (λ t. t.cost) (filter (λ t. is_none t.limit && item_fits x t) I.types)
+
+-- each item with a demand fits some type without limit: the single cost exists
+abbrev pub HasSingle : InstanceValue → Type 0
+HasSingle I = All (λ x. 0 < x.demand → 0 < length (single_costs I x)) I.items
+
+-- the single cost: that of one bin for each unit, each bin of the cheapest type without limit
+abbrev pub single_of : InstanceValue → ℕ
+single_of I = sum_by (λ x. x.demand * least_of (single_costs I x)) I.items
+
+-- each bin holds one unit
+abbrev pub HasOneUnitEach : Bins → Type 0
+HasOneUnitEach P = All (λ b. sum_by (λ n. n.count) b.1 ≡ 1) P
+
+-- no packing costs less than the material bound
+abbrev pub MaterialIsFloor : Type 0
+MaterialIsFloor = (I : InstanceValue) → IsFloor I (material_of I)
+
+-- where some item with a demand fits nowhere, there is no packing
+abbrev pub NoPlaceNoPacking : Type 0
+NoPlaceNoPacking = (I : InstanceValue) → (HasPlaces I → ⊥) → HasNoPacking I

@@ -1,0 +1,4 @@
+pub mod Instances
+pub mod Packings
+pub mod Printed
+pub mod Floors

@@ -1,0 +1,52 @@
+-- Packings as they are written down: bins, each with the number of times that it is used.
+use Rattle.std.specs.Prelude.{◌≡◌, ℕ, ◌+◌, ◌*◌, ◌<◌, ◌≤◌, List, [], ◌∷◌, All, length, replicate, sum_by}
+use Rattle.std.specs.List.{flat_map}
+use Rattle.std.specs.List.Sorted.{IsStrictlySortedBy}
+use Rattle.std.specs.Ordering.{nat_cmp, ordering_then}
+use Rattle.std.specs.Cmp.Lexicographic.{slice_cmp}
+use Rattle.std.specs.declared.cmp.Ordering.{Ordering}
+use Rattle.packing_laws.specs.declared.packings.Count.{Count}
+use Rattle.packing_laws.specs.declared.packings.Bin.{Bin}
+use Rattle.packing_laws.specs.Instances.{InstanceValue}
+use Rattle.packing_laws.specs.Packings.{Content, Bins, Fits, IsPacking, count_of_form}
+
+-- the bins that are meant: each as often as it is used
+abbrev pub bins_of : List Bin → Bins
+bins_of bins = flat_map (λ b. replicate b.times (b.bin_type, b.counts)) bins
+
+-- the bins that are meant are a packing; a bin that is used no time at all fits too
+pub record IsWrittenPacking (I : InstanceValue) (bins : List Bin) : Type 0 where
+  pub fits : All (λ b. Fits I b.bin_type b.counts) bins
+  pub packing : IsPacking I (bins_of bins)
+
+-- two contents have as many of each form
+abbrev pub SameContent : Content → Content → Type 0
+SameContent c d = (i f : ℕ) → count_of_form i f c ≡ count_of_form i f d
+
+-- the order of forms: by item, then by form
+abbrev pub form_cmp : Count → Count → Ordering
+form_cmp m n = ordering_then (nat_cmp m.item n.item) (nat_cmp m.form n.form)
+
+-- the order of counts: by item, by form, and then by how many
+abbrev pub count_cmp : Count → Count → Ordering
+count_cmp m n = ordering_then (nat_cmp m.item n.item) (ordering_then (nat_cmp m.form n.form) (nat_cmp m.count n.count))
+
+-- the order of bins: by type, then by what is in them
+abbrev pub bin_cmp : Bin → Bin → Ordering
+bin_cmp a b = ordering_then (nat_cmp a.bin_type b.bin_type) (slice_cmp count_cmp a.counts b.counts)
+
+-- each form stands once, in order, with a count above 0
+pub record IsTidyContent (c : Content) : Type 0 where
+  pub order : IsStrictlySortedBy form_cmp c
+  pub positive : All (λ n. 0 < n.count) c
+
+-- a bin that is used, and is not empty
+pub record IsTidyBin (b : Bin) : Type 0 where
+  pub used : 0 < b.times
+  pub filled : 0 < length b.counts
+  pub content : IsTidyContent b.counts
+
+-- the printed form: tidy bins, those alike written once, in order
+pub record IsTidy (bins : List Bin) : Type 0 where
+  pub each : All IsTidyBin bins
+  pub order : IsStrictlySortedBy bin_cmp bins

@@ -1,0 +1,12 @@
+//! Instances of vector packing, packings of them, what these cost, and costs that no packing goes below.
+#![tactic(auto)]
+
+mod fault;
+mod instances;
+mod numbers;
+mod packings;
+
+pub use fault::ReadFault;
+pub use instances::{BinType, Instance, Item};
+pub use numbers::{Numbers, Vectors};
+pub use packings::{Bin, Count, Counts, Packing};
