@@ -1,2 +1,3 @@
 pub mod Words
 pub mod Scan
+pub mod Loading
