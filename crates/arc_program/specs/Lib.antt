@@ -1,3 +1,5 @@
 pub mod Words
 pub mod Scan
 pub mod Loading
+pub mod Reports
+pub mod Printing
