@@ -1,5 +1,5 @@
 ghost use Rattle.std.specs.Prelude.{◌≡◌, ℕ, ◌+◌, ◌<◌, ◌≤◌, MatchResult};
-ghost use Rattle.packing_laws.specs.Places.{front, value_in, limit_in, number_at, limit_at, end_at, Gives};
+ghost use Rattle.packing_laws.specs.Places.{front, value_in, limit_in, next_number, next_limit, end_at, Gives};
 
 use arc_num::{MAX_VALUE, Tokens, is_digits, number};
 use packing_laws::ReadFault;
@@ -33,10 +33,10 @@ impl<'a> Places<'a> {
         }
     }
 
-    #[tactic(auto, unfolding(packing_laws::specs::Places::number_at))]
+    #[tactic(auto, unfolding(packing_laws::specs::Places::next_number))]
     /// The number at the next place, from `low` to `high`.
     pub fn number(&mut self, low: u32, high: u32) -> Result<u32, ReadFault>
-        ensures { Gives result self.new (number_at low high self.old) }
+        ensures { Gives result self.new (next_number low high self.old) }
     {
         let index = self.tokens.count() + 1;
         match self.tokens.next() {
@@ -45,10 +45,10 @@ impl<'a> Places<'a> {
         }
     }
 
-    #[tactic(auto, unfolding(packing_laws::specs::Places::limit_at))]
+    #[tactic(auto, unfolding(packing_laws::specs::Places::next_limit))]
     /// The limit at the next place, where `-1` stands for none.
     pub fn limit(&mut self) -> Result<Option<u32>, ReadFault>
-        ensures { Gives result self.new (limit_at self.old) }
+        ensures { Gives result self.new (next_limit self.old) }
     {
         let index = self.tokens.count() + 1;
         match self.tokens.next() {

@@ -42,12 +42,12 @@ abbrev pub limit_in : ℕ → List ℕ → Result (Option ℕ) ReadFault
 limit_in index t = if bytes_eq t (codes "-1") then Ok None else (value_in 0 MAX_VALUE index t >>= (λ v. Ok (Some v)))
 
 -- a number from low to high
-unfoldable pub number_at : ℕ → ℕ → Place → Result (ℕ × Place) ReadFault
-number_at low high p = token_in (value_in low high) p.count p.left
+unfoldable pub next_number : ℕ → ℕ → Place → Result (ℕ × Place) ReadFault
+next_number low high p = token_in (value_in low high) p.count p.left
 
 -- a limit
-unfoldable pub limit_at : Place → Result (Option ℕ × Place) ReadFault
-limit_at p = token_in limit_in p.count p.left
+unfoldable pub next_limit : Place → Result (Option ℕ × Place) ReadFault
+next_limit p = token_in limit_in p.count p.left
 
 -- n more values behind those that are there, each read in view of all before it
 abbrev pub several : {A : Type 0} → ℕ → (List A → Place → Result (A × Place) ReadFault) → List A → Place → Result (List A × Place) ReadFault
@@ -57,17 +57,17 @@ several (suc n) each xs p = do
   several n each (xs ++ x.0 ∷ []) x.1
 
 -- a weight or a capacity in one dimension
-abbrev pub component_at : List ℕ → Place → Result (ℕ × Place) ReadFault
-component_at xs p = number_at 0 MAX_VALUE p
+abbrev pub component_behind : List ℕ → Place → Result (ℕ × Place) ReadFault
+component_behind xs p = next_number 0 MAX_VALUE p
 
 -- a vector: a number for each dimension
-unfoldable pub vector_at : ℕ → Place → Result (List ℕ × Place) ReadFault
-vector_at dims p = several dims component_at [] p
+unfoldable pub next_vector : ℕ → Place → Result (List ℕ × Place) ReadFault
+next_vector dims p = several dims component_behind [] p
 
 -- a weight vector: ZeroWeight at its last number where all its numbers are 0
-unfoldable pub form_at : ℕ → ℕ → ℕ → Place → Result (List ℕ × Place) ReadFault
-form_at dims item form p = do
-  v ← vector_at dims p
+unfoldable pub next_form : ℕ → ℕ → ℕ → Place → Result (List ℕ × Place) ReadFault
+next_form dims item form p = do
+  v ← next_vector dims p
   if list_all (λ x. x == 0) v.0 then Err (ZeroWeight v.1.count item form) else Ok v
 
 -- no token is left: Extra at the next token where there is one

@@ -3,6 +3,7 @@
 
 mod fault;
 mod instances;
+mod limits;
 mod numbers;
 mod packings;
 

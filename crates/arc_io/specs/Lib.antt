@@ -1,0 +1,5 @@
+pub mod Faults
+pub mod Bytes
+pub mod Entries
+pub mod Calls
+pub mod Stores
