@@ -1,6 +1,6 @@
 //! The tokens of a text, one after the other.
 
-ghost use Rattle.std.specs.Prelude.{◌≡◌, ◌↔◌, ℕ, ◌+◌, ◌-◌, ◌<◌, ◌≤◌, true, false, length, drop, slice_range, [], ◌∷◌, IsTrue, IsNone, IfSome, IfNone};
+ghost use Rattle.std.specs.Prelude.{◌≡◌, ◌↔◌, ℕ, ◌+◌, ◌-◌, ◌^◌, ◌<◌, ◌≤◌, true, false, length, drop, slice_range, [], ◌∷◌, IsTrue, IsNone, IfSome, IfNone};
 ghost use Rattle.arc_num.specs.Words.{is_white, ends_token, IsBlank, IsWord, IsFirstRun, tokens_of, whole, TokensValue, TokensAreTheLongestRuns};
 
 use std::marker::Model;
@@ -41,6 +41,14 @@ impl<'a> Tokens<'a> {
             at: 0,
             count: 0,
         }
+    }
+
+    /// How many tokens came.
+    pub fn count(&self) -> u64
+        ensures value { result ≡ self.now.count }
+        ensures small { result < 2 ^ 63 }
+    {
+        self.count
     }
 
     pub fn next(&mut self) -> Option<Token>

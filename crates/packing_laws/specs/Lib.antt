@@ -2,3 +2,5 @@ pub mod Instances
 pub mod Packings
 pub mod Printed
 pub mod Floors
+pub mod Places
+pub mod Layouts

@@ -1,0 +1,9 @@
+//! A walk over the places of a layout: what the readers of both layouts share.
+#![tactic(auto)]
+
+mod places;
+mod vectors;
+
+pub use places::Places;
+pub use vectors::form;
+pub use vectors::vector;
