@@ -3,11 +3,13 @@
 
 mod fault;
 mod instances;
+mod laws;
 mod limits;
 mod numbers;
 mod packings;
 
 pub use fault::ReadFault;
 pub use instances::{BinType, Instance, Item};
+pub use laws::{best_type_gives_floor, material_is_floor, no_place_no_packing};
 pub use numbers::{Numbers, Vectors};
 pub use packings::{Bin, Count, Counts, Packing};

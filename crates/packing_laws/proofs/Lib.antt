@@ -1,0 +1,5 @@
+pub mod Least
+pub mod Sums
+pub mod MaterialLaw
+pub mod BestType
+pub mod Places
