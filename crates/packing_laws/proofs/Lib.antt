@@ -1,4 +1,6 @@
+pub mod WrittenSums
 pub mod Least
+pub mod LeftOver
 pub mod Sums
 pub mod MaterialLaw
 pub mod BestType
