@@ -1,10 +1,10 @@
 -- Costs that no packing goes below, and a cost that one packing has.
-use Rattle.std.specs.Prelude.{zero, suc, ◌≡◌, ℕ, ◌+◌, ◌-◌, ◌*◌, ◌/◌, ◌<◌, ◌≤◌, List, [], ◌∷◌, length, Bool, true, false, Option, Some, None, map, filter, All, is_none, ◌&&◌, min, max, sum_by, nat_lt, nat_le, if◌then◌else◌, slice_index}
+use Rattle.std.specs.Prelude.{zero, suc, ◌≡◌, ℕ, ◌+◌, ◌-◌, ◌*◌, ◌/◌, ◌<◌, ◌≤◌, List, [], ◌∷◌, length, Bool, true, map, filter, All, is_none, ◌&&◌, min, max, sum_by, nat_lt, nat_le, slice_index}
 use Rattle.std.specs.List.{list_all, list_any, zip}
 use Rattle.packing_laws.specs.declared.instances.BinType.{BinType}
 use Rattle.packing_laws.specs.declared.instances.Item.{Item}
-use Rattle.packing_laws.specs.Instances.{InstanceValue}
-use Rattle.packing_laws.specs.Packings.{Bins, Content, IsPacking, IsFloor, HasNoPacking, cost_of, count_of_item}
+use Rattle.packing_laws.specs.Instances.{InstanceValue, IsInstance, IsAmong, type_at}
+use Rattle.packing_laws.specs.Packings.{Bins, IsPacking, IsFloor, HasNoPacking, cost_of}
 
 -- the least of some numbers, 0 where there are none
 abbrev pub least_of : List ℕ → ℕ
@@ -73,4 +73,22 @@ MaterialIsFloor = (I : InstanceValue) → IsFloor I (material_of I)
 
 -- where some item with a demand fits nowhere, there is no packing
 abbrev pub NoPlaceNoPacking : Type 0
-NoPlaceNoPacking = (I : InstanceValue) → (HasPlaces I → ⊥) → HasNoPacking I
+NoPlaceNoPacking = (I : InstanceValue) → IsInstance I → (HasPlaces I → ⊥) → HasNoPacking I
+
+-- where each item with a demand fits some type without limit, some packing costs exactly the single cost
+abbrev pub SingleIsReached : Type 0
+SingleIsReached = (I : InstanceValue) → IsInstance I → HasSingle I → (P : Bins) × IsPacking I P × (cost_of I P ≡ single_of I)
+
+-- how much a bin of type t holds in dimension d
+abbrev pub room_in : InstanceValue → ℕ → ℕ → ℕ
+room_in I d t = slice_index (type_at I t).cap (d - 1)
+
+-- in dimension d type t has room, and no type has more room for its cost
+pub record IsBestType (I : InstanceValue) (d t : ℕ) : Type 0 where
+  pub bin_type : IsAmong t (length I.types)
+  pub room : 0 < room_in I d t
+  pub best : (u : ℕ) → IsAmong u (length I.types) → room_in I d u * (type_at I t).cost ≤ room_in I d t * (type_at I u).cost
+
+-- the floor in a dimension is the cost of what all units weigh there, in bins of a best type taken in parts
+abbrev pub BestTypeGivesFloor : Type 0
+BestTypeGivesFloor = (I : InstanceValue) (d t : ℕ) → IsBestType I d t → floor_in I d ≡ div_up (material_in I d * (type_at I t).cost) (room_in I d t)

@@ -1,5 +1,5 @@
 -- What an instance is.
-use Rattle.std.specs.Prelude.{◌≡◌, ℕ, ◌+◌, ◌-◌, ◌<◌, ◌≤◌, List, [], length, Option, Some, None, All, Any, sum_by, slice_index_or}
+use Rattle.std.specs.Prelude.{◌≡◌, ℕ, ◌-◌, ◌<◌, ◌≤◌, List, [], length, Option, Some, None, All, Any, sum_by, slice_index_or}
 use Rattle.arc_num.specs.declared.TheConstants.{MAX_DIMS, MAX_TYPES, MAX_ITEMS, MAX_FORMS, MAX_ALL_FORMS, MAX_VALUE, MAX_DEMAND}
 use Rattle.packing_laws.specs.declared.instances.BinType.{BinType}
 use Rattle.packing_laws.specs.declared.instances.Item.{Item}
@@ -14,15 +14,15 @@ pub record InstanceValue : Type 0 where
 abbrev pub IsAmong : ℕ → ℕ → Type 0
 IsAmong k n = (1 ≤ k) × (k ≤ n)
 
--- type t, by numbers from 1; one with nothing in it where there is no such type
+-- type t, by numbers from 1 (0 is read as 1); one with nothing in it where there is no such type
 abbrev pub type_at : InstanceValue → ℕ → BinType
 type_at I t = slice_index_or I.types (t - 1) (record { cap = []; cost = 0; limit = None })
 
--- item i, by numbers from 1; one with nothing in it where there is no such item
+-- item i, by numbers from 1 (0 is read as 1); one with nothing in it where there is no such item
 abbrev pub item_at : InstanceValue → ℕ → Item
 item_at I i = slice_index_or I.items (i - 1) (record { demand = 0; forms = [] })
 
--- the weight vector of form f of item i, by numbers from 1; an empty one where there is no such form
+-- the weight vector of form f of item i, by numbers from 1 (0 is read as 1); an empty one where there is no such form
 abbrev pub form_at : InstanceValue → ℕ → ℕ → List ℕ
 form_at I i f = slice_index_or (item_at I i).forms (f - 1) []
 

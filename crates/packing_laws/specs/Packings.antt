@@ -1,8 +1,6 @@
 -- What a packing is, and what it costs.
-use Rattle.std.specs.Prelude.{◌≡◌, ℕ, ◌+◌, ◌-◌, ◌*◌, ◌<◌, ◌≤◌, List, [], ◌∷◌, ◌++◌, length, Option, Some, None, All, sum_by, count_by, ◌==◌, ◌&&◌, if◌then◌else◌, slice_index, slice_get, IfSome}
+use Rattle.std.specs.Prelude.{◌≡◌, ℕ, ◌-◌, ◌*◌, ◌<◌, ◌≤◌, List, ◌++◌, length, Some, All, sum_by, count_by, ◌==◌, ◌&&◌, if◌then◌else◌, slice_index, slice_get, IfSome}
 use Rattle.std.specs.List.{flat_map}
-use Rattle.packing_laws.specs.declared.instances.BinType.{BinType}
-use Rattle.packing_laws.specs.declared.instances.Item.{Item}
 use Rattle.packing_laws.specs.declared.packings.Count.{Count}
 use Rattle.packing_laws.specs.Instances.{InstanceValue, IsAmong, type_at, item_at, form_at}
 
@@ -55,9 +53,13 @@ pub record IsPacking (I : InstanceValue) (P : Bins) : Type 0 where
   pub limits : (t : ℕ) → IsAmong t (length I.types) → IfSome (type_at I t).limit (λ q. used_of t P ≤ q)
   pub demands : (i : ℕ) → IsAmong i (length I.items) → count_of_item i (all_of P) ≡ (item_at I i).demand
 
--- the costs of the types of the bins, added up
+-- what a bin of type t costs, by numbers from 1; 0 where there is no such type
+abbrev pub cost_at : InstanceValue → ℕ → ℕ
+cost_at I t = if t == 0 then 0 else (type_at I t).cost
+
+-- the costs of the bins, added up
 abbrev pub cost_of : InstanceValue → Bins → ℕ
-cost_of I P = sum_by (λ b. (type_at I b.0).cost) P
+cost_of I P = sum_by (λ b. cost_at I b.0) P
 
 -- no packing costs less than z
 abbrev pub IsFloor : InstanceValue → ℕ → Type 0

@@ -70,6 +70,7 @@ impl Instance {
 
     pub fn types(&self) -> &[BinType]
         ensures value { result.now ≡ self.now.types }
+        ensures count { IsAmong (length result.now) MAX_TYPES }
         ensures known { All (IsBinType self.now.dims) result.now }
     {
         self.types.as_slice()
@@ -77,6 +78,7 @@ impl Instance {
 
     pub fn items(&self) -> &[Item]
         ensures value { result.now ≡ self.now.items }
+        ensures count { length result.now ≤ MAX_ITEMS }
         ensures known { All (IsItem self.now.dims) result.now }
     {
         self.items.as_slice()

@@ -1,13 +1,19 @@
 //! Instances of vector packing, packings of them, what these cost, and costs that no packing goes below.
 #![tactic(auto)]
 
+mod costs;
 mod fault;
+mod floors;
 mod instances;
+mod laws;
 mod limits;
 mod numbers;
 mod packings;
 
+pub use costs::cost;
 pub use fault::ReadFault;
+pub use floors::material_bound;
 pub use instances::{BinType, Instance, Item};
+pub use laws::{best_type_gives_floor, material_is_floor, no_place_no_packing};
 pub use numbers::{Numbers, Vectors};
 pub use packings::{Bin, Count, Counts, Packing};

@@ -1,0 +1,18 @@
+//! What holds of every instance: a call of a law brings it to a proof.
+
+ghost use Rattle.packing_laws.specs.Floors.{MaterialIsFloor, BestTypeGivesFloor, NoPlaceNoPacking};
+
+/// No packing costs less than the material bound.
+pub fn material_is_floor()
+    ensures { MaterialIsFloor }
+{}
+
+/// The floor in a dimension is what all units weigh there, in bins of a type with the most room for its cost.
+pub fn best_type_gives_floor()
+    ensures { BestTypeGivesFloor }
+{}
+
+/// Where no form of an item with a demand fits any type, there is no packing.
+pub fn no_place_no_packing()
+    ensures { NoPlaceNoPacking }
+{}
