@@ -1,5 +1,5 @@
 -- Entries and their bytes.
-use Rattle.std.proofs.Common.{◌≡◌, ℕ, ◌<◌, Bool, true, Some, List, [], ◌∷◌, length, drop, get_or, refl, zero, suc, arith, ap, sym}
+use Rattle.std.proofs.Common.{◌≡◌, ℕ, ◌<◌, true, Some, List, [], ◌∷◌, length, drop, get_or, refl, zero, suc, arith, ap, sym}
 use Rattle.std.specs.Str.{bytes_eq}
 use Rattle.arc_io.specs.Entries.{Entry, entry_of, bytes_at}
 

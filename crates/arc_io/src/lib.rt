@@ -7,6 +7,8 @@ mod memory;
 mod stores;
 mod sure;
 mod system;
+#[cfg(test)]
+mod tests;
 
 pub use memory::{MemShelf, MemSink};
 use std::marker::Model;

@@ -1,6 +1,8 @@
 //! The real files and streams. Nothing is told of their bytes.
-ghost use Rattle.std.specs.Prelude.{◌≡◌, ◌≤◌, IfOk, IsErr, MatchResult, length};
-ghost use Rattle.arc_io.specs.Faults.{CountsFault};
+ghost use Rattle.std.specs.Prelude.{◌≡◌, ◌≤◌, IfOk, MatchResult, length};
+ghost use Rattle.arc_io.specs.Faults.{CountsFault, counted};
+ghost use Rattle.arc_io.specs.System.{fault_of_kind};
+ghost use Rattle.std.specs.IoError.{error_kind};
 
 use crate::calls::next_count;
 use crate::{IoFault, Shelf, Sink};
@@ -9,7 +11,9 @@ use std::fs::File;
 use std::io::{ErrorKind, Print, Read, Write};
 use std::{fs, io};
 
-fn fault_of(error: &io::Error) -> IoFault {
+fn fault_of(error: &io::Error) -> IoFault
+    ensures { result ≡ fault_of_kind (error_kind error.now) }
+{
     match error.kind() {
         ErrorKind::OutOfMemory => IoFault::Memory,
         _ => IoFault::Failed,
@@ -17,9 +21,10 @@ fn fault_of(error: &io::Error) -> IoFault {
 }
 
 /// Turns an error into a fault, and counts it where it is no want of memory.
-fn counted<T>(outcome: io::Result<T>, count: &mut u64) -> Result<T, IoFault>
+fn count_fault<T>(outcome: io::Result<T>, count: &mut u64) -> Result<T, IoFault>
     ensures faults { CountsFault result count.old count.new }
-    ensures value { MatchResult outcome (λ value. result ≡ Ok value) (λ error. IsErr result) }
+    ensures value { MatchResult outcome (λ value. result ≡ Ok value) (λ error. result ≡ Err (fault_of_kind (error_kind error))) }
+    ensures counted { count.new ≡ counted result count.old }
 {
     match outcome {
         Ok(value) => Ok(value),
@@ -113,7 +118,7 @@ impl Shelf for FileShelf {
     fn start(&mut self, name: &str) -> Result<(), IoFault> {
         self.reader = Reader::Nothing;
         let opened = Reader::open(&self.rt, name);
-        match counted(opened, &mut self.read_faults) {
+        match count_fault(opened, &mut self.read_faults) {
             Ok(reader) => {
                 self.reader = reader;
                 Ok(())
@@ -124,13 +129,13 @@ impl Shelf for FileShelf {
 
     fn more(&mut self, into: &mut [u8]) -> Result<usize, IoFault> {
         let read = self.reader.read(&self.rt, into);
-        counted(read, &mut self.read_faults)
+        count_fault(read, &mut self.read_faults)
     }
 
     fn create(&mut self, name: &str) -> Result<(), IoFault> {
         self.writer = None;
         let created = fs::create(&self.rt, name);
-        match counted(created, &mut self.write_faults) {
+        match count_fault(created, &mut self.write_faults) {
             Ok(file) => {
                 self.writer = Some(file);
                 Ok(())
@@ -141,7 +146,7 @@ impl Shelf for FileShelf {
 
     fn put(&mut self, bytes: &[u8]) -> Result<(), IoFault> {
         match &mut self.writer {
-            Some(file) => counted(file.write_all(bytes), &mut self.write_faults),
+            Some(file) => count_fault(file.write_all(bytes), &mut self.write_faults),
             None => unreachable!(),
         }
     }
@@ -175,7 +180,7 @@ impl Sink for OutSink {
     ghost faults = { λ s. s.faults };
 
     fn put(&mut self, bytes: &[u8]) -> Result<(), IoFault> {
-        counted(self.rt.stdout().write_all(bytes), &mut self.faults)
+        count_fault(self.rt.stdout().write_all(bytes), &mut self.faults)
     }
 }
 
@@ -202,6 +207,55 @@ impl Sink for ErrSink {
     ghost faults = { λ s. s.faults };
 
     fn put(&mut self, bytes: &[u8]) -> Result<(), IoFault> {
-        counted(self.rt.stderr().write_all(bytes), &mut self.faults)
+        count_fault(self.rt.stderr().write_all(bytes), &mut self.faults)
+    }
+}
+
+#[cfg(test)]
+mod tests {
+    use super::*;
+    use std::process;
+    use std::test::Fail;
+
+    #[test]
+    fn file_shelf_writes_and_reads(rt: HostRuntime) -> Result<(), Fail> {
+        let id = process::id(rt.process());
+        let name = format!(in rt.alloc(); "/tmp/arc_io_test_{id}")?;
+        let mut shelf = FileShelf::new(&rt, rt.alloc());
+        shelf.create(name.as_str())?;
+        shelf.put(b"ab")?;
+        shelf.put(b"c")?;
+        shelf.close()?;
+        shelf.start(name.as_str())?;
+        let mut buffer = [0u8; 8];
+        assert_eq!(rt; shelf.more(&mut buffer)?, 3);
+        assert_eq!(rt; &buffer[..3], b"abc".as_slice());
+        assert_eq!(rt; shelf.more(&mut buffer)?, 0);
+        fs::remove_file(&rt, name.as_str())?;
+        assert_eq!(rt; shelf.start(name.as_str()), Err(IoFault::Failed));
+        assert_eq!(rt; shelf.read_faults, 1);
+        assert_eq!(rt; shelf.more(&mut buffer), Ok(0));
+        assert_eq!(rt;
+            shelf.create("/tmp/no/such/folder/name"),
+            Err(IoFault::Failed)
+        );
+        assert_eq!(rt; shelf.write_faults, 1);
+        Ok(())
+    }
+
+    #[test]
+    fn out_sink_takes(rt: HostRuntime) -> Result<(), Fail> {
+        let mut sink = OutSink::new(&rt, rt.alloc());
+        sink.put(b"to standard output\n")?;
+        assert_eq!(rt; sink.faults, 0);
+        Ok(())
+    }
+
+    #[test]
+    fn err_sink_takes(rt: HostRuntime) -> Result<(), Fail> {
+        let mut sink = ErrSink::new(&rt, rt.alloc());
+        sink.put(b"to standard error\n")?;
+        assert_eq!(rt; sink.faults, 0);
+        Ok(())
     }
 }

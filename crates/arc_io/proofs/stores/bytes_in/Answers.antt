@@ -1,4 +1,4 @@
-use Rattle.std.proofs.Common.{◌≡◌, sym, ap, arith, ◌∙◌}
+use Rattle.std.proofs.Common.{sym, ap, ◌∙◌}
 use Rattle.arc_io.specs.Entries.{Entry}
 use Rattle.arc_io.proofs.EntryLemmas.{bytes_at-read}
 use Rattle.arc_io.proofs.stores.bytes_in.Goals as goal
