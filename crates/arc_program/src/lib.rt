@@ -2,13 +2,20 @@
 #![tactic(auto)]
 
 mod answers;
+mod inputs;
 mod loading;
 mod printing;
+mod refusals;
 mod reports;
+mod run;
 mod scans;
+mod status;
+mod tasks;
 mod text;
 mod words;
 
 pub use answers::Answer;
+pub use refusals::Refusal;
 pub use reports::solve_text;
+pub use status::Status;
 pub use words::{Command, WordFault};

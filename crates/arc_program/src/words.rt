@@ -12,6 +12,42 @@ pub enum Command {
     Solve { name: String, mvp: bool },
 }
 
+impl Command {
+    ghost use Rattle.std.specs.Prelude.{◌≡◌, Bool, string_bytes};
+    ghost use Rattle.arc_program.specs.Words.{request_of};
+    ghost use Rattle.arc_program.specs.Runs.{name_of, layout_of, layout_for};
+
+    /// The name of the instance that is asked about.
+    pub fn name(&self) -> &str
+        ensures { result.now ≡ name_of (request_of self.now) }
+    {
+        match self {
+            Command::Compile { name, .. } => name.as_str(),
+            Command::Solve { name, .. } => name.as_str(),
+        }
+    }
+
+    /// The same, given away.
+    pub fn into_name(self) -> String
+        ensures { string_bytes result ≡ name_of (request_of self) }
+    {
+        match self {
+            Command::Compile { name, .. } => name,
+            Command::Solve { name, .. } => name,
+        }
+    }
+
+    /// Whether the instance is read in the `.mvp` layout.
+    pub fn is_mvp(&self) -> bool
+        ensures { layout_for result ≡ layout_of (request_of self.now) }
+    {
+        match self {
+            Command::Compile { mvp, .. } => *mvp,
+            Command::Solve { mvp, .. } => *mvp,
+        }
+    }
+}
+
 /// What a word behind the command is.
 #[derive(Clone, Copy, Debug, PartialEq, Eq)]
 pub enum Kind {

@@ -1,0 +1,72 @@
+//! The work of each command.
+
+ghost use Rattle.std.specs.Prelude.{◌≡◌, IfOk};
+ghost use Rattle.arc_program.specs.Words.{request_of};
+ghost use Rattle.arc_program.specs.Answers.{IsAnswer};
+ghost use Rattle.arc_program.specs.Reports.{answer_text};
+ghost use Rattle.arc_program.specs.Runs.{IsReport, answer_status};
+
+use crate::answers::Answer;
+use crate::reports::solve_text;
+use crate::status::Status;
+use crate::text::Text;
+use crate::words::Command;
+use arc_num::Memory;
+use packing_laws::Instance;
+use std::alloc::Global;
+
+/// A report, and the status of a run that prints it.
+#[derive(Debug, Drop)]
+pub struct Report {
+    pub text: Text,
+    pub status: Status,
+}
+
+impl Answer {
+    /// The status of a run that prints this answer.
+    pub fn status(&self) -> Status
+        ensures { result ≡ answer_status self.now }
+    {
+        match self {
+            Answer::Optimal { .. } => Status::Done,
+            Answer::Bracket { .. } => Status::Bracketed,
+            Answer::Unpacked { .. } => Status::Bracketed,
+            Answer::Infeasible => Status::Done,
+        }
+    }
+}
+
+fn answer_of(_alloc: Global, _instance: &Instance) -> Result<Answer, Memory>
+    ensures { IfOk result (IsAnswer _instance.now) }
+{
+    Err(Memory)
+}
+
+fn solve(alloc: Global, instance: &Instance) -> Result<Report, Memory>
+    ensures text { IfOk result (λ report. (answer : Answer) × IsAnswer instance.now answer × (report.text ≡ answer_text answer) × (report.status ≡ answer_status answer)) }
+{
+    let answer = answer_of(alloc, instance)?;
+    let status = answer.status();
+    let text = Text::new(solve_text(alloc, &answer)?);
+    Ok(Report { text, status })
+}
+
+fn compile(_alloc: Global, _instance: &Instance) -> Result<Report, Memory>
+    ensures { IfOk result (λ _. ⊥) }
+{
+    Err(Memory)
+}
+
+/// Does a command's own work.
+pub fn report_on(
+    alloc: Global,
+    command: &Command,
+    instance: &Instance,
+) -> Result<Report, Memory>
+    ensures { IfOk result (λ report. IsReport (request_of command.now) instance.now report.status report.text) }
+{
+    match command {
+        Command::Compile { .. } => compile(alloc, instance),
+        Command::Solve { .. } => solve(alloc, instance),
+    }
+}
