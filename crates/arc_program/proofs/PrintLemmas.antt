@@ -22,9 +22,9 @@ take_all ys k h =
 -- some first bytes of some first bytes
 take_of_take : (xs : List ℕ) (k m : ℕ) → (j : ℕ) × (take k (take m xs) ≡ take j xs)
 take_of_take xs k m = elim (cases_lt m k) [
-    inl h ↦ (m, take_all (take m xs) k (omega (arith, length-take m xs)))
+  | inl h ↦ (m, take_all (take m xs) k (omega (arith, length-take m xs)))
   | inr h ↦ (k, take-take k m xs h)
-  ]
+]
 
 -- the first bytes of a part are first bytes behind what is in front of it
 pub part_of_part : (text : List ℕ) (at end k : ℕ) → (j : ℕ) × (take at text ++ take k (slice_range text at end) ≡ take j text)

@@ -1,5 +1,5 @@
 -- What a run is, from the words and the bytes that come in to the bytes that go out.
-use Rattle.std.specs.Prelude.{◌≡◌, ℕ, ◌<◌, ◌≤◌, ◌⊎◌, Bool, true, false, List, length, Option, Some, None, IfSome, Result, Ok, Err, IsOkAnd, IsErrAnd, string_bytes, if◌then◌else◌}
+use Rattle.std.specs.Prelude.{◌≡◌, ℕ, ◌<◌, ◌≤◌, ◌⊎◌, Bool, true, false, List, length, Option, Some, None, IfSome, IsSomeAnd, Result, Ok, Err, IsOkAnd, IsErrAnd, string_bytes, if◌then◌else◌}
 use Rattle.arc_num.specs.declared.TheConstants.{MAX_INSTANCE}
 use Rattle.arc_io.specs.declared.IoFault.{IoFault}
 use Rattle.arc_io.specs.Faults.{Rose, CountsFault}
@@ -11,13 +11,13 @@ use Rattle.packing_laws.specs.Layouts.{Layout, Vbp, Mvp}
 use Rattle.arc_program.specs.declared.answers.Answer.{Answer}
 use Rattle.arc_program.specs.declared.answers.Answer.TheVariants.{Optimal, Bracket, Unpacked, Infeasible}
 use Rattle.arc_program.specs.declared.status.Status.{Status}
-use Rattle.arc_program.specs.declared.status.Status.TheVariants.{Done, Bracketed, NoMemory}
+use Rattle.arc_program.specs.declared.status.Status.TheVariants.{Done, Bracketed, Usage, BadInstance, BadCertificate, ReadFault as ReadFaults, WriteFault, NoMemory, TooLarge}
 use Rattle.arc_program.specs.declared.refusals.Refusal.{Refusal}
 use Rattle.arc_program.specs.declared.refusals.Refusal.TheVariants.{Words, Unread, Long, BadPlace, Unwritten, Memory}
 use Rattle.arc_program.specs.Words.{Word, Request, Compiles, Solves, words_of}
 use Rattle.arc_program.specs.Answers.{IsAnswer}
 use Rattle.arc_program.specs.Reports.{answer_text}
-use Rattle.arc_program.specs.Refusals.{refusal_line, refusal_status}
+use Rattle.arc_program.specs.Refusals.{refusal_line, refusal_status, memory_line, long_line, place_line}
 use Rattle.arc_program.specs.Printing.{TakesAll, TakesPrefix}
 
 -- the name of the instance that is asked about
@@ -107,3 +107,43 @@ IfUnread (Long name) P = Unit {0}
 IfUnread (BadPlace name fault) P = Unit {0}
 IfUnread Unwritten P = Unit {0}
 IfUnread Memory P = Unit {0}
+
+-- the refusal was said, with its status; or no memory was left for its line, and that was said
+abbrev pub IsSaid : Refusal → Status → Told → Told → ℕ → ℕ → Type 0
+IsSaid refusal status before after faults_before faults_after =
+    ((status ≡ refusal_status refusal) × Says (refusal_line refusal) before after faults_before faults_after)
+    ⊎ ((status ≡ NoMemory) × Says memory_line before after faults_before faults_after)
+
+-- why the bytes are no instance was said
+abbrev pub SaysWhy : Request → List ℕ → Told → Told → ℕ → ℕ → Type 0
+SaysWhy request bytes before after faults_before faults_after =
+    (IsLong bytes × Says (long_line (name_of request)) before after faults_before faults_after)
+    ⊎ ((fault : ReadFault) × IsBadAt request bytes fault × Says (place_line (name_of request) fault) before after faults_before faults_after)
+
+-- the words are a request, and the bytes under its name are told and spell an instance
+abbrev pub HasInstance : List Word → Files → Type 0
+HasInstance words held = IsOkAnd (words_of words) (λ request. IsSomeAnd (held (name_of request)) (λ bytes. (I : InstanceValue) × IsAccepted request bytes I))
+
+-- the report was taken whole
+abbrev pub IsReported : Status → Type 0
+IsReported Done = Unit {0}
+IsReported Bracketed = Unit {0}
+IsReported Usage = ⊥
+IsReported BadInstance = ⊥
+IsReported BadCertificate = ⊥
+IsReported ReadFaults = ⊥
+IsReported WriteFault = ⊥
+IsReported NoMemory = ⊥
+IsReported TooLarge = ⊥
+
+-- the run ended before its report
+abbrev pub IsEarly : Status → Type 0
+IsEarly Done = ⊥
+IsEarly Bracketed = ⊥
+IsEarly Usage = Unit {0}
+IsEarly BadInstance = Unit {0}
+IsEarly BadCertificate = Unit {0}
+IsEarly ReadFaults = Unit {0}
+IsEarly WriteFault = ⊥
+IsEarly NoMemory = ⊥
+IsEarly TooLarge = Unit {0}

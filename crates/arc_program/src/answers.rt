@@ -4,7 +4,10 @@ use packing_laws::Packing;
 #[derive(Debug, Drop)]
 pub enum Answer {
     /// A packing that no other undercuts.
-    Optimal { cost: u128, packing: Packing },
+    Optimal {
+        cost: u128,
+        packing: Packing,
+    },
     /// A packing, and a bound that no packing undercuts.
     Bracket {
         lower: u128,
@@ -12,7 +15,9 @@ pub enum Answer {
         packing: Packing,
     },
     /// A bound alone: some item with a demand fits no type without limit.
-    Unpacked { lower: u128 },
+    Unpacked {
+        lower: u128,
+    },
     /// There is no packing.
     Infeasible,
 }

@@ -4,7 +4,7 @@ ghost use Rattle.std.specs.Prelude.{◌≡◌, IfOk};
 ghost use Rattle.arc_program.specs.Words.{request_of};
 ghost use Rattle.arc_program.specs.Answers.{IsAnswer};
 ghost use Rattle.arc_program.specs.Reports.{answer_text};
-ghost use Rattle.arc_program.specs.Runs.{IsReport, answer_status};
+ghost use Rattle.arc_program.specs.Runs.{IsReport, IsReported, answer_status};
 
 use crate::answers::Answer;
 use crate::reports::solve_text;
@@ -25,7 +25,8 @@ pub struct Report {
 impl Answer {
     /// The status of a run that prints this answer.
     pub fn status(&self) -> Status
-        ensures { result ≡ answer_status self.now }
+        ensures value { result ≡ answer_status self.now }
+        ensures reported { IsReported result }
     {
         match self {
             Answer::Optimal { .. } => Status::Done,
@@ -43,6 +44,7 @@ fn answer_of(_alloc: Global, _instance: &Instance) -> Result<Answer, Memory>
 }
 
 fn solve(alloc: Global, instance: &Instance) -> Result<Report, Memory>
+    ensures reported { IfOk result (λ report. IsReported report.status) }
     ensures text { IfOk result (λ report. (answer : Answer) × IsAnswer instance.now answer × (report.text ≡ answer_text answer) × (report.status ≡ answer_status answer)) }
 {
     let answer = answer_of(alloc, instance)?;
@@ -58,12 +60,9 @@ fn compile(_alloc: Global, _instance: &Instance) -> Result<Report, Memory>
 }
 
 /// Does a command's own work.
-pub fn report_on(
-    alloc: Global,
-    command: &Command,
-    instance: &Instance,
-) -> Result<Report, Memory>
-    ensures { IfOk result (λ report. IsReport (request_of command.now) instance.now report.status report.text) }
+pub fn report_on(alloc: Global, command: &Command, instance: &Instance) -> Result<Report, Memory>
+    ensures reported { IfOk result (λ report. IsReported report.status) }
+    ensures report { IfOk result (λ report. IsReport (request_of command.now) instance.now report.status report.text) }
 {
     match command {
         Command::Compile { .. } => compile(alloc, instance),
