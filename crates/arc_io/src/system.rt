@@ -213,8 +213,6 @@ impl Sink for ErrSink {
 
 #[cfg(test)]
 mod tests {
-    ghost use Rattle.std.specs.Prelude.{◌<◌, ◌≤◌, IfOk, length};
-
     use super::*;
     use std::process;
     use std::test::Fail;
@@ -228,22 +226,15 @@ mod tests {
         closed
     }
 
-    fn read_once(shelf: &mut FileShelf, name: &str, into: &mut [u8]) -> Result<usize, IoFault>
-        requires { 0 < length into.old }
-        ensures { IfOk result (λ n. n ≤ length into.new) }
-    {
-        shelf.start(name)?;
-        shelf.more(into)
-    }
-
     #[test]
     fn file_shelf_writes_and_reads(rt: HostRuntime) -> Result<(), Fail> {
         let id = process::id(rt.process());
         let name = format!(in rt.alloc(); "/tmp/arc_io_test_{id}")?;
         let mut shelf = FileShelf::new(&rt, rt.alloc());
         write_twice(&mut shelf, name.as_str())?;
+        shelf.start(name.as_str())?;
         let mut buffer = [0u8; 8];
-        let count = read_once(&mut shelf, name.as_str(), &mut buffer)?;
+        let count = shelf.more(&mut buffer)?;
         fs::remove_file(&rt, name.as_str())?;
         assert_eq!(rt; &buffer[..count], b"abc".as_slice());
         assert_eq!(rt; shelf.more(&mut buffer)?, 0);

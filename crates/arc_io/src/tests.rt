@@ -13,7 +13,7 @@ fn named(alloc: Global, name: &str, bytes: &[u8]) -> Result<NamedBytes, AllocErr
 fn two_files(alloc: Global) -> Result<Vec<NamedBytes>, AllocError> {
     let first = named(alloc, "held", b"1 10 0")?;
     let second = named(alloc, "held", b"second")?;
-    vec![in alloc; first, second]
+    Ok(vec![in alloc; first, second]?)
 }
 
 /// Reads a name in pieces of at most 4 bytes, and answers how many reads gave something.
