@@ -7,6 +7,10 @@ pub record CallsValue : Type 0 where
   pub failing : List ℕ
   pub made : ℕ
 
+-- no call was made
+abbrev pub new_calls : List ℕ → CallsValue
+new_calls failing = record { failing = failing; made = 0 }
+
 -- the next call is one of those that fail
 abbrev pub IsListed : CallsValue → Type 0
 IsListed c = Contains c.failing (raised c.made)

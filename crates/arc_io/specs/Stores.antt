@@ -2,7 +2,7 @@
 use Rattle.std.specs.Prelude.{ℕ, Bool, true, false, List, [], ◌∷◌, drop, Result, Ok, Err}
 use Rattle.arc_io.specs.declared.IoFault.{IoFault}
 use Rattle.arc_io.specs.declared.IoFault.TheVariants.{Failed, Memory}
-use Rattle.arc_io.specs.Calls.{CallsValue}
+use Rattle.arc_io.specs.Calls.{CallsValue, new_calls}
 use Rattle.arc_io.specs.Entries.{Entry, bytes_of, appended}
 
 -- what is held, what the started name has still to give, the most bytes of one read, what was written (the last
@@ -31,6 +31,14 @@ pub record MemSinkValue : Type 0 where
 -- nothing is started, asked for or written
 abbrev pub new_store : List Entry → ℕ → StoreValue
 new_store held most = record { held = held; left = []; most = most; written = []; writing = false; asked = [] }
+
+-- a shelf of which no call was made and no call failed
+abbrev pub new_mem_shelf : List Entry → List ℕ → ℕ → MemShelfValue
+new_mem_shelf held failing most = record { store = new_store held most; calls = new_calls failing; read_faults = 0; write_faults = 0 }
+
+-- a sink of which no call was made and no call failed
+abbrev pub new_mem_sink : List ℕ → MemSinkValue
+new_mem_sink failing = record { taken = []; calls = new_calls failing; faults = 0 }
 
 -- a start gives the held bytes, from the first on
 abbrev pub after_start : {T : Type 0} → Result T IoFault → List ℕ → StoreValue → StoreValue

@@ -1,7 +1,7 @@
 //! Counts of calls and of faults, which stop at 2^64-1.
 ghost use Rattle.std.specs.Prelude.{◌≡◌, ◌↔◌, IsTrue};
 ghost use Rattle.arc_io.specs.Faults.{raised};
-ghost use Rattle.arc_io.specs.Calls.{CallsValue, IsListed, next_call};
+ghost use Rattle.arc_io.specs.Calls.{IsListed, new_calls, next_call};
 
 use std::marker::Model;
 
@@ -29,7 +29,7 @@ impl Model for Calls {
 
 impl Calls {
     pub fn new(failing: Vec<u64>) -> Self
-        ensures { result ≡ record { failing = failing.items; made = 0 } }
+        ensures { result ≡ new_calls failing.items }
     {
         Calls { failing, made: 0 }
     }

@@ -1,8 +1,9 @@
 //! A shelf and a sink in memory, of which chosen calls fail.
-ghost use Rattle.std.specs.Prelude.{◌≡◌, ◌<◌, []};
+ghost use Rattle.std.specs.Prelude.{◌≡◌, ◌<◌};
 ghost use Rattle.std.specs.Option.{option_copied};
 ghost use Rattle.arc_io.specs.Entries.{entry_of};
-ghost use Rattle.arc_io.specs.Stores.{new_store};
+ghost use Rattle.arc_io.specs.Faults.{Rose, raised};
+ghost use Rattle.arc_io.specs.Stores.{new_mem_shelf, new_mem_sink};
 
 use crate::calls::{Calls, next_count};
 use crate::stores::Store;
@@ -30,7 +31,7 @@ impl Model for MemShelf {
 impl MemShelf {
     /// A shelf that holds these bytes. Each read gives as many bytes as are left and fit.
     pub fn new(alloc: Global, files: Vec<NamedBytes>, failing: Vec<u64>) -> Self
-        ensures { result ≡ record { store = new_store files.items usize.MAX; calls = record { failing = failing.items; made = 0 }; read_faults = 0; write_faults = 0 } }
+        ensures { result ≡ new_mem_shelf files.items failing.items usize.MAX }
     {
         MemShelf::with_pieces(alloc, files, failing, usize::MAX)
     }
@@ -43,7 +44,7 @@ impl MemShelf {
         most: usize,
     ) -> Self
         requires { 0 < most }
-        ensures { result ≡ record { store = new_store files.items most; calls = record { failing = failing.items; made = 0 }; read_faults = 0; write_faults = 0 } }
+        ensures { result ≡ new_mem_shelf files.items failing.items most }
     {
         MemShelf {
             store: Store::new(alloc, files, most),
@@ -72,6 +73,24 @@ impl MemShelf {
         ensures { option_copied result ≡ entry_of self.now.store.written name.now }
     {
         self.store.written_of(name)
+    }
+
+    fn read_fault(&mut self) -> IoFault
+        ensures failed { result ≡ IoFault.Failed }
+        ensures rose { Rose self.old.read_faults self.new.read_faults }
+        ensures after { self.new ≡ record self.old { read_faults = raised self.old.read_faults } }
+    {
+        self.read_faults = next_count(self.read_faults);
+        IoFault::Failed
+    }
+
+    fn write_fault(&mut self) -> IoFault
+        ensures failed { result ≡ IoFault.Failed }
+        ensures rose { Rose self.old.write_faults self.new.write_faults }
+        ensures after { self.new ≡ record self.old { write_faults = raised self.old.write_faults } }
+    {
+        self.write_faults = next_count(self.write_faults);
+        IoFault::Failed
     }
 }
 
@@ -116,8 +135,7 @@ impl Shelf for MemShelf {
         };
         if is_listed || !is_held {
             self.store.end_reading();
-            self.read_faults = next_count(self.read_faults);
-            return Err(IoFault::Failed);
+            return Err(self.read_fault());
         }
         Ok(())
     }
@@ -137,8 +155,7 @@ impl Shelf for MemShelf {
         ensures writes { self.new.write_faults ≡ self.old.write_faults }
     {
         if self.calls.count() {
-            self.read_faults = next_count(self.read_faults);
-            return Err(IoFault::Failed);
+            return Err(self.read_fault());
         }
         Ok(self.store.more(into))
     }
@@ -158,8 +175,7 @@ impl Shelf for MemShelf {
             if self.store.ask(name).is_err() {
                 return Err(IoFault::Memory);
             }
-            self.write_faults = next_count(self.write_faults);
-            return Err(IoFault::Failed);
+            return Err(self.write_fault());
         }
         match self.store.create(name) {
             Ok(()) => Ok(()),
@@ -179,8 +195,7 @@ impl Shelf for MemShelf {
         ensures counted { self.new.write_faults ≡ counted result self.old.write_faults }
     {
         if self.calls.count() {
-            self.write_faults = next_count(self.write_faults);
-            return Err(IoFault::Failed);
+            return Err(self.write_fault());
         }
         match self.store.put(bytes) {
             Ok(()) => Ok(()),
@@ -201,8 +216,7 @@ impl Shelf for MemShelf {
     {
         self.store.close();
         if self.calls.count() {
-            self.write_faults = next_count(self.write_faults);
-            return Err(IoFault::Failed);
+            return Err(self.write_fault());
         }
         Ok(())
     }
@@ -226,7 +240,7 @@ impl Model for MemSink {
 
 impl MemSink {
     pub fn new(alloc: Global, failing: Vec<u64>) -> Self
-        ensures { result ≡ record { taken = []; calls = record { failing = failing.items; made = 0 }; faults = 0 } }
+        ensures { result ≡ new_mem_sink failing.items }
     {
         MemSink {
             taken: Vec::new(alloc),

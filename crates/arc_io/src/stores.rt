@@ -135,7 +135,7 @@ impl Store {
         ensures ok { OnOk result (self.new ≡ record self.old { written = record { name = name.now; bytes = [] } ∷ self.old.written; writing = true; asked = name.now }) }
         ensures err { OnErr result (self.new ≡ record self.old { writing = false }) }
     {
-        self.writing = false;
+        self.close();
         let asked = String::from_str(self.alloc, name)?;
         let entry = NamedBytes {
             name: String::from_str(self.alloc, name)?,

@@ -217,30 +217,37 @@ mod tests {
     use std::process;
     use std::test::Fail;
 
+    fn write_twice(shelf: &mut FileShelf, name: &str) -> Result<(), IoFault> {
+        shelf.create(name)?;
+        shelf.put(b"ab")?;
+        let put = shelf.put(b"c");
+        let closed = shelf.close();
+        put?;
+        closed
+    }
+
     #[test]
     fn file_shelf_writes_and_reads(rt: HostRuntime) -> Result<(), Fail> {
         let id = process::id(rt.process());
         let name = format!(in rt.alloc(); "/tmp/arc_io_test_{id}")?;
         let mut shelf = FileShelf::new(&rt, rt.alloc());
-        shelf.create(name.as_str())?;
-        shelf.put(b"ab")?;
-        shelf.put(b"c")?;
-        shelf.close()?;
+        write_twice(&mut shelf, name.as_str())?;
         shelf.start(name.as_str())?;
         let mut buffer = [0u8; 8];
-        assert_eq!(rt; shelf.more(&mut buffer)?, 3);
-        assert_eq!(rt; &buffer[..3], b"abc".as_slice());
-        assert_eq!(rt; shelf.more(&mut buffer)?, 0);
+        let count = shelf.more(&mut buffer)?;
         fs::remove_file(&rt, name.as_str())?;
-        assert_eq!(rt; shelf.start(name.as_str()), Err(IoFault::Failed));
-        assert_eq!(rt; shelf.read_faults, 1);
-        assert_eq!(rt; shelf.more(&mut buffer), Ok(0));
-        assert_eq!(rt;
-            shelf.create("/tmp/no/such/folder/name"),
-            Err(IoFault::Failed)
-        );
-        assert_eq!(rt; shelf.write_faults, 1);
+        assert_eq!(rt; &buffer[..count], b"abc".as_slice());
+        assert_eq!(rt; shelf.more(&mut buffer)?, 0);
         Ok(())
+    }
+
+    #[test]
+    fn file_shelf_counts_refusals(rt: HostRuntime) {
+        let mut shelf = FileShelf::new(&rt, rt.alloc());
+        assert_eq!(rt; shelf.start("/tmp/no/such/file"), Err(IoFault::Failed));
+        assert_eq!(rt; shelf.create("/tmp/no/such/file"), Err(IoFault::Failed));
+        assert_eq!(rt; shelf.read_faults, 1);
+        assert_eq!(rt; shelf.write_faults, 1);
     }
 
     #[test]

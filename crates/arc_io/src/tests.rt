@@ -3,14 +3,17 @@ use crate::{IoFault, MemShelf, MemSink, NamedBytes, Shelf, Sink, SureShelf, Sure
 use std::alloc::{AllocError, Global};
 use std::test::Fail;
 
-/// A list with one name, and bytes under it.
-fn one_file(alloc: Global, name: &str, bytes: &[u8]) -> Result<Vec<NamedBytes>, AllocError> {
-    let mut files = Vec::new(alloc);
-    files.push(NamedBytes {
-        name: String::from_str(alloc, name)?,
-        bytes: Vec::from_slice(alloc, bytes)?,
-    })?;
-    Ok(files)
+fn named(alloc: Global, name: &str, bytes: &[u8]) -> Result<NamedBytes, AllocError> {
+    let name = String::from_str(alloc, name)?;
+    let bytes = Vec::from_slice(alloc, bytes)?;
+    Ok(NamedBytes { name, bytes })
+}
+
+/// A list with two entries of one name.
+fn two_files(alloc: Global) -> Result<Vec<NamedBytes>, AllocError> {
+    let first = named(alloc, "held", b"1 10 0")?;
+    let second = named(alloc, "held", b"second")?;
+    Ok(vec![in alloc; first, second]?)
 }
 
 /// Reads a name in pieces of at most 4 bytes, and answers how many reads gave something.
@@ -44,12 +47,8 @@ fn put<K: Sink>(sink: &mut K, bytes: &[u8]) -> Result<(), IoFault> {
 
 #[test]
 fn mem_shelf_reads(rt: HostRuntime) -> Result<(), Fail> {
-    let mut files = one_file(rt.alloc(), "held", b"1 10 0")?;
-    files.push(NamedBytes {
-        name: String::from_str(rt.alloc(), "held")?,
-        bytes: Vec::from_slice(rt.alloc(), b"second")?,
-    })?;
-    let mut shelf = MemShelf::new(rt.alloc(), files, vec![in rt.alloc(); 6]?);
+    let failing = vec![in rt.alloc(); 6]?;
+    let mut shelf = MemShelf::new(rt.alloc(), two_files(rt.alloc())?, failing);
     let mut out = Vec::new(rt.alloc());
     assert_eq!(rt; read_pieces(&mut shelf, "held", &mut out), Ok(2));
     assert_eq!(rt; out.as_slice(), b"1 10 0".as_slice());
@@ -57,7 +56,6 @@ fn mem_shelf_reads(rt: HostRuntime) -> Result<(), Fail> {
         read_pieces(&mut shelf, "none", &mut out),
         Err(IoFault::Failed)
     );
-    assert_eq!(rt; shelf.read_faults(), 1);
     assert_eq!(rt;
         read_pieces(&mut shelf, "held", &mut out),
         Err(IoFault::Failed)
@@ -68,8 +66,8 @@ fn mem_shelf_reads(rt: HostRuntime) -> Result<(), Fail> {
 
 #[test]
 fn mem_shelf_reads_single_bytes(rt: HostRuntime) -> Result<(), Fail> {
-    let files = one_file(rt.alloc(), "held", b"1 10 0")?;
-    let mut shelf = MemShelf::with_pieces(rt.alloc(), files, Vec::new(rt.alloc()), 1);
+    let failing = Vec::new(rt.alloc());
+    let mut shelf = MemShelf::with_pieces(rt.alloc(), two_files(rt.alloc())?, failing, 1);
     let mut out = Vec::new(rt.alloc());
     assert_eq!(rt; read_pieces(&mut shelf, "held", &mut out), Ok(6));
     assert_eq!(rt; out.as_slice(), b"1 10 0".as_slice());
@@ -81,14 +79,14 @@ fn mem_shelf_writes(rt: HostRuntime) -> Result<(), Fail> {
     let failing = vec![in rt.alloc(); 5]?;
     let mut shelf = MemShelf::new(rt.alloc(), Vec::new(rt.alloc()), failing);
     assert_eq!(rt; write(&mut shelf, "out", b"ab"), Ok(()));
-    assert_eq!(rt;
-        shelf.written_of("out").ok_or("not created")?,
-        b"ab".as_slice()
-    );
-    assert!(rt; shelf.written_of("none").is_none());
     assert_eq!(rt; write(&mut shelf, "cut", b"cd"), Err(IoFault::Failed));
     assert_eq!(rt; shelf.write_faults(), 1);
-    assert_eq!(rt; shelf.written_of("cut").ok_or("not created")?.len(), 0);
+    assert_eq!(rt;
+        shelf.written_of("out").unwrap_or(b"none"),
+        b"ab".as_slice()
+    );
+    assert_eq!(rt; shelf.written_of("cut").unwrap_or(b"none"), b"".as_slice());
+    assert!(rt; shelf.written_of("none").is_none());
     Ok(())
 }
 
@@ -104,21 +102,24 @@ fn mem_sink_fails_at_first(rt: HostRuntime) -> Result<(), Fail> {
 }
 
 #[test]
-fn sure_ones_take_all(rt: HostRuntime) -> Result<(), Fail> {
-    let mut shelf = SureShelf::new(rt.alloc(), one_file(rt.alloc(), "held", b"1 10 0")?);
+fn sure_shelf_reads_and_writes(rt: HostRuntime) -> Result<(), Fail> {
+    let mut shelf = SureShelf::new(rt.alloc(), two_files(rt.alloc())?);
     let mut out = Vec::new(rt.alloc());
     assert_eq!(rt; read_pieces(&mut shelf, "none", &mut out), Ok(0));
     assert_eq!(rt; read_pieces(&mut shelf, "held", &mut out), Ok(2));
     assert_eq!(rt; write(&mut shelf, "out", b"ab"), Ok(()));
     assert_eq!(rt;
-        shelf.written_of("out").ok_or("not created")?,
+        shelf.written_of("out").unwrap_or(b"none"),
         b"ab".as_slice()
     );
-    assert!(rt; shelf.written_of("held").is_none());
     assert_eq!(rt; shelf.read_faults() + shelf.write_faults(), 0);
+    Ok(())
+}
+
+#[test]
+fn sure_sink_takes(rt: HostRuntime) {
     let mut sink = SureSink::new(rt.alloc());
     assert_eq!(rt; put(&mut sink, b"ab"), Ok(()));
     assert_eq!(rt; sink.bytes(), b"ab".as_slice());
     assert_eq!(rt; sink.faults(), 0);
-    Ok(())
 }
