@@ -4,4 +4,4 @@ pub mod LeftOver
 pub mod Sums
 pub mod MaterialLaw
 pub mod BestType
-pub mod Places
+pub mod PackedItems

@@ -2,3 +2,4 @@ pub mod Instances
 pub mod Packings
 pub mod Printed
 pub mod Floors
+pub mod Choices

@@ -9,6 +9,8 @@ mod laws;
 mod limits;
 mod numbers;
 mod packings;
+mod places;
+mod single;
 
 pub use costs::cost;
 pub use fault::ReadFault;
@@ -17,3 +19,5 @@ pub use instances::{BinType, Instance, Item};
 pub use laws::{best_type_gives_floor, material_is_floor, no_place_no_packing};
 pub use numbers::{Numbers, Vectors};
 pub use packings::{Bin, Count, Counts, Packing};
+pub use places::homeless_item;
+pub use single::single_cost;
