@@ -5,3 +5,4 @@ pub mod Sums
 pub mod MaterialLaw
 pub mod BestType
 pub mod PackedItems
+pub mod OneUnitBins

@@ -1,6 +1,7 @@
 //! Instances of vector packing, packings of them, what these cost, and costs that no packing goes below.
 #![tactic(auto)]
 
+mod apart;
 mod costs;
 mod fault;
 mod floors;
@@ -12,6 +13,7 @@ mod packings;
 mod places;
 mod single;
 
+pub use apart::units_apart;
 pub use costs::cost;
 pub use fault::ReadFault;
 pub use floors::material_bound;
