@@ -6,3 +6,4 @@ pub mod MaterialLaw
 pub mod BestType
 pub mod PackedItems
 pub mod OneUnitBins
+pub mod SingleLaw

@@ -1,5 +1,5 @@
 -- Bins with one unit each.
-use Rattle.std.proofs.Common.{zero, suc, ◌≡◌, ℕ, ◌+◌, ◌-◌, ◌*◌, ◌<◌, ◌≤◌, ◌⊎◌, ◌∙◌, inl, inr, List, [], ◌∷◌, ◌++◌, length, take, Bool, true, false, cond, ◌==◌, Option, Some, None, IfSome, All, sum_by, replicate, slice_index, refl, sym, ap, subst, arith, get_or}
+use Rattle.std.proofs.Common.{◌≡◌, ℕ, ◌+◌, ◌-◌, ◌*◌, ◌<◌, ◌≤◌, ◌∙◌, inl, inr, List, [], ◌∷◌, ◌++◌, length, take, cond, ◌==◌, Option, Some, None, IfSome, All, sum_by, replicate, refl, sym, ap, subst, arith, get_or}
 use Rattle.std.specs.List.Sorted.{IsStrictlySortedBy}
 use Rattle.std.proofs.lemmas.Bool.{cases_eq, ne_eqb, eq-eqb, cond-true, cond-false}
 use Rattle.std.proofs.lemmas.List.{take_all, get_or_default}
@@ -11,7 +11,7 @@ use Rattle.packing_laws.specs.declared.packings.Count.{Count}
 use Rattle.packing_laws.specs.declared.packings.Bin.{Bin}
 use Rattle.packing_laws.specs.declared.single.Choice.{Choice}
 use Rattle.packing_laws.specs.Instances.{InstanceValue, IsInstance, IsAmong, type_at, item_at, form_at}
-use Rattle.packing_laws.specs.Packings.{Content, Bins, Exists, Fits, IsPacking, all_of, used_of, cost_at, cost_of, count_of_item, weight_in}
+use Rattle.packing_laws.specs.Packings.{Content, Exists, Fits, used_of, cost_at, cost_of, count_of_item}
 use Rattle.packing_laws.specs.Printed.{bins_of, IsWrittenPacking, IsTidyBin, form_cmp}
 use Rattle.packing_laws.specs.Floors.{least_of, single_costs, single_of, HasSingle, HasOneUnitEach}
 use Rattle.packing_laws.specs.Choices.{IsCheapest}

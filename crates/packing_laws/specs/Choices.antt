@@ -1,5 +1,5 @@
 -- Where a unit of an item goes.
-use Rattle.std.specs.Prelude.{◌≡◌, ℕ, ◌-◌, ◌<◌, ◌≤◌, [], length, Bool, true, None, slice_index_or}
+use Rattle.std.specs.Prelude.{◌≡◌, ℕ, ◌-◌, ◌<◌, [], length, true, None, slice_index_or}
 use Rattle.packing_laws.specs.declared.instances.BinType.{BinType}
 use Rattle.packing_laws.specs.declared.instances.Item.{Item}
 use Rattle.packing_laws.specs.declared.single.Choice.{Choice}

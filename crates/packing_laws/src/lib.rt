@@ -18,7 +18,7 @@ pub use costs::cost;
 pub use fault::ReadFault;
 pub use floors::material_bound;
 pub use instances::{BinType, Instance, Item};
-pub use laws::{best_type_gives_floor, material_is_floor, no_place_no_packing};
+pub use laws::{best_type_gives_floor, material_is_floor, no_place_no_packing, single_is_reached};
 pub use numbers::{Numbers, Vectors};
 pub use packings::{Bin, Count, Counts, Packing};
 pub use places::homeless_item;

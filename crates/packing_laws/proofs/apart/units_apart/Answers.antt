@@ -1,10 +1,9 @@
 -- One more item, with a demand or without; and all of them.
-use Rattle.std.proofs.Common.{◌≡◌, ℕ, ◌+◌, ◌-◌, ◌<◌, ◌≤◌, [], ◌∷◌, ◌++◌, List, length, ap, sym, subst, ◌∙◌, arith}
+use Rattle.std.proofs.Common.{◌≡◌, ℕ, ◌+◌, ◌<◌, [], ◌∷◌, ◌++◌, List, length, ap, arith}
 use Rattle.packing_laws.specs.declared.instances.Item.{Item}
 use Rattle.packing_laws.specs.declared.packings.Bin.{Bin}
 use Rattle.packing_laws.specs.declared.single.Choice.{Choice}
 use Rattle.packing_laws.specs.Instances.{InstanceValue, IsInstance, item_at}
-use Rattle.packing_laws.specs.Choices.{IsCheapest}
 use Rattle.packing_laws.proofs.OneUnitBins.{AreApart, unit_bin, item-by_number, AreApart-skipped, AreApart-more, AreApart-packing, AreApart-one, AreApart-cost}
 use Rattle.packing_laws.proofs.apart.units_apart.Goals as goal
 use Rattle.packing_laws.proofs.apart.units_apart.Goals.{then-item-gt0+in-Some+in_ok-one_unit-in-Some+in_ok-push-in-Some, else-item-gt0}
