@@ -1,7 +1,6 @@
 -- A loop that keeps the least of some numbers.
-use Rattle.std.proofs.Common.{zero, suc, ◌≡◌, ℕ, ◌+◌, ◌<◌, ◌≤◌, List, [], ◌∷◌, length, min, Option, Some, None, MatchOption, unwrap_or, Bool, true, false, map, filter, drop, get_or, subst, ap, add-one, drop-cons, refl, sym, ◌∙◌, arith}
+use Rattle.std.proofs.Common.{◌≡◌, ℕ, ◌+◌, ◌<◌, List, [], ◌∷◌, length, min, Option, Some, None, MatchOption, unwrap_or, Bool, true, false, map, filter, drop, get_or, subst, ap, add-one, drop-cons, refl, ◌∙◌, arith}
 use Rattle.packing_laws.specs.Floors.{least_of}
-use Rattle.packing_laws.proofs.Least.{least_of-first}
 
 -- what the least of all is, by the least so far, if any, and those that are left
 abbrev pub IsLeftOf : Option ℕ → List ℕ → List ℕ → Type 0

@@ -4,4 +4,6 @@ pub mod LeftOver
 pub mod Sums
 pub mod MaterialLaw
 pub mod BestType
-pub mod Places
+pub mod PackedItems
+pub mod OneUnitBins
+pub mod SingleLaw

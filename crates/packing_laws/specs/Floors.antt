@@ -1,9 +1,9 @@
 -- Costs that no packing goes below, and a cost that one packing has.
-use Rattle.std.specs.Prelude.{zero, suc, ◌≡◌, ℕ, ◌+◌, ◌-◌, ◌*◌, ◌/◌, ◌<◌, ◌≤◌, List, [], ◌∷◌, length, Bool, true, map, filter, All, is_none, ◌&&◌, min, max, sum_by, nat_lt, nat_le, slice_index}
+use Rattle.std.specs.Prelude.{zero, suc, ◌≡◌, ℕ, ◌+◌, ◌-◌, ◌*◌, ◌/◌, ◌<◌, ◌≤◌, List, [], ◌∷◌, length, Bool, true, false, map, filter, All, is_none, ◌&&◌, min, max, sum_by, nat_lt, nat_le, slice_index}
 use Rattle.std.specs.List.{list_all, list_any, zip}
 use Rattle.packing_laws.specs.declared.instances.BinType.{BinType}
 use Rattle.packing_laws.specs.declared.instances.Item.{Item}
-use Rattle.packing_laws.specs.Instances.{InstanceValue, IsInstance, IsAmong, type_at}
+use Rattle.packing_laws.specs.Instances.{InstanceValue, IsInstance, IsAmong, type_at, item_at}
 use Rattle.packing_laws.specs.Packings.{Bins, IsPacking, IsFloor, HasNoPacking, cost_of}
 
 -- the least of some numbers, 0 where there are none
@@ -50,6 +50,13 @@ item_fits x t = list_any (λ v. vector_fits v t.cap) x.forms
 -- each item with a demand has a form that fits some type
 abbrev pub HasPlaces : InstanceValue → Type 0
 HasPlaces I = All (λ x. 0 < x.demand → list_any (item_fits x) I.types ≡ true) I.items
+
+-- item i is the first with a demand of which no form fits any type
+pub record IsFirstHomeless (I : InstanceValue) (i : ℕ) : Type 0 where
+  pub item : IsAmong i (length I.items)
+  pub demand : 0 < (item_at I i).demand
+  pub place : list_any (item_fits (item_at I i)) I.types ≡ false
+  pub first : (j : ℕ) → IsAmong j (i - 1) → 0 < (item_at I j).demand → list_any (item_fits (item_at I j)) I.types ≡ true
 
 -- the costs of the types without limit that some form of the item fits
 abbrev pub single_costs : InstanceValue → Item → List ℕ

@@ -1,6 +1,6 @@
 //! What holds of every instance: a call of a law brings it to a proof.
 
-ghost use Rattle.packing_laws.specs.Floors.{MaterialIsFloor, BestTypeGivesFloor, NoPlaceNoPacking};
+ghost use Rattle.packing_laws.specs.Floors.{MaterialIsFloor, BestTypeGivesFloor, NoPlaceNoPacking, SingleIsReached};
 
 /// No packing costs less than the material bound.
 pub fn material_is_floor()
@@ -15,4 +15,9 @@ pub fn best_type_gives_floor()
 /// Where no form of an item with a demand fits any type, there is no packing.
 pub fn no_place_no_packing()
     ensures { NoPlaceNoPacking }
+{}
+
+/// Where each item with a demand fits some type without limit, some packing costs exactly the single cost.
+pub fn single_is_reached()
+    ensures { SingleIsReached }
 {}

@@ -1,6 +1,7 @@
 //! Instances of vector packing, packings of them, what these cost, and costs that no packing goes below.
 #![tactic(auto)]
 
+mod apart;
 mod costs;
 mod fault;
 mod floors;
@@ -9,11 +10,16 @@ mod laws;
 mod limits;
 mod numbers;
 mod packings;
+mod places;
+mod single;
 
+pub use apart::units_apart;
 pub use costs::cost;
 pub use fault::ReadFault;
 pub use floors::material_bound;
 pub use instances::{BinType, Instance, Item};
-pub use laws::{best_type_gives_floor, material_is_floor, no_place_no_packing};
+pub use laws::{best_type_gives_floor, material_is_floor, no_place_no_packing, single_is_reached};
 pub use numbers::{Numbers, Vectors};
 pub use packings::{Bin, Count, Counts, Packing};
+pub use places::homeless_item;
+pub use single::single_cost;

@@ -1,5 +1,5 @@
 -- All bins are counted.
-use Rattle.std.proofs.Common.{◌≡◌, List, length, take, sum_by, ◌*◌, arith, sym, ap, ◌∙◌}
+use Rattle.std.proofs.Common.{◌≡◌, List, take, sum_by, ◌*◌, sym, ap, ◌∙◌}
 use Rattle.std.proofs.lemmas.List.{take_all}
 use Rattle.packing_laws.specs.declared.packings.Bin.{Bin}
 use Rattle.packing_laws.specs.Packings.{cost_at}

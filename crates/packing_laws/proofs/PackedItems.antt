@@ -10,7 +10,7 @@ use Rattle.packing_laws.specs.declared.instances.Item.{Item}
 use Rattle.packing_laws.specs.declared.packings.Count.{Count}
 use Rattle.packing_laws.specs.Instances.{InstanceValue, IsInstance, IsAmong, type_at, item_at, form_at}
 use Rattle.packing_laws.specs.Packings.{Content, Bins, Fits, IsPacking, all_of, count_of_item, weight_in}
-use Rattle.packing_laws.specs.Floors.{vector_fits, item_fits, NoPlaceNoPacking}
+use Rattle.packing_laws.specs.Floors.{vector_fits, item_fits, HasPlaces, NoPlaceNoPacking}
 use Rattle.packing_laws.proofs.Sums.{sum_by-flat_map}
 
 -- a vector that is nowhere greater fits
@@ -85,8 +85,11 @@ packed-place I i P inside packing among demand =
     let place : item_fits (item_at I i) (type_at I b.0) ≡ true = content-place I b.0 i b.1 inside fits among (found.2 (0, [])) in
     list_any_at (item_fits (item_at I i)) I.types (b.0 - 1) (record { cap = []; cost = 0; limit = None }) (omega (arith, fits.bin_type.0, fits.bin_type.1)) place
 
+-- a place for each item, by its number
+pub places-by_number : (I : InstanceValue) → ((i : ℕ) → IsAmong i (length I.items) → 0 < (item_at I i).demand → list_any (item_fits (item_at I i)) I.types ≡ true) → HasPlaces I
+places-by_number I each =
+    All-from_get_or (λ (x : Item). 0 < x.demand → list_any (item_fits x) I.types ≡ true) I.items (record { demand = 0; forms = [] })
+    (λ k within. let e : suc k - 1 ≡ k = omega arith in rw e at (each (suc k) (omega arith, omega arith)))
+
 pub no_place_no_packing : NoPlaceNoPacking
-no_place_no_packing I inside none P packing =
-    none (All-from_get_or (λ (x : Item). 0 < x.demand → list_any (item_fits x) I.types ≡ true) I.items (record { demand = 0; forms = [] }) (λ k within.
-    let e : suc k - 1 ≡ k = omega arith in
-    rw e at (packed-place I (suc k) P inside packing (omega arith, omega arith))))
+no_place_no_packing I inside none P packing = none (places-by_number I (λ i among. packed-place I i P inside packing among))
