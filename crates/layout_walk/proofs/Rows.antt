@@ -4,7 +4,7 @@ use Rattle.std.specs.List.{All, flat_map}
 use Rattle.std.proofs.lemmas.List.Elements.{All-nil, All-cons, All-head, All-tail}
 use Rattle.packing_laws.specs.declared.fault.ReadFault.{ReadFault}
 use Rattle.packing_laws.specs.declared.fault.ReadFault.TheVariants.{Short}
-use Rattle.packing_laws.specs.Places.{Place, ◌>>=◌, token_in, several}
+use Rattle.packing_laws.specs.Places.{Place, ◌>>=◌, token_in, several, end_in}
 use Rattle.packing_laws.specs.Layouts.{SpellsField, Spells}
 
 -- the first of the tokens spells the field
@@ -156,3 +156,11 @@ module _ {A : Type 0} where
   pub chosen : (b : Bool) (e : ReadFault) (r : A) (y : A) → cond b (Err e) (Ok r) ≡ Ok y → (b ≡ false) × (r ≡ y)
   chosen true e r y h = absurd (cc)
   chosen false e r y h = (refl, cc)
+
+-- the end of the text
+pub end_reached : (count : ℕ) (ts : List (List ℕ)) (u : Unit {0}) → end_in count ts ≡ Ok u → ts ≡ []
+end_reached count [] u h = refl
+end_reached count (t ∷ ts) u h = absurd (cc)
+
+pub reached_end : (count : ℕ) (ts : List (List ℕ)) → ts ≡ [] → end_in count ts ≡ Ok tt
+reached_end count ts e = rw e refl
