@@ -1,6 +1,7 @@
 -- A text of one type reads as an instance exactly where its tokens are the row of this instance.
 use Rattle.std.proofs.Common.{zero, suc, ◌≡◌, ℕ, ◌+◌, ◌-◌, ◌<◌, ◌≤◌, Bool, true, false, cond, List, [], ◌∷◌, ◌++◌, length, Option, Some, None, Result, Ok, Err, refl, sym, ap, ◌∙◌, subst, append_assoc, append-nil, arith}
 use Rattle.std.specs.List.{All, flat_map, sum_by}
+use Rattle.std.proofs.lemmas.List.Sums.{sum_by-cons}
 use Rattle.std.proofs.lemmas.List.Elements.{All-nil, All-cons, All-head, All-tail, All-weaker}
 use Rattle.arc_num.specs.Words.{tokens_of}
 use Rattle.arc_num.specs.declared.TheConstants.{MAX_DIMS, MAX_ITEMS, MAX_DEMAND, MAX_FORMS}
@@ -17,10 +18,10 @@ use Rattle.layout_walk.proofs.Numerals.{number-exact, vector-exact, form-exact}
 abbrev pub IsPlainItem : ℕ → Item → Type 0
 IsPlainItem n x = IsItem n x × (length x.forms ≡ 1)
 
-abbrev item_of : List ℕ → ℕ → Item
+abbrev pub item_of : List ℕ → ℕ → Item
 item_of v b = record { demand = b; forms = v ∷ [] }
 
-abbrev after_form : List ℕ × Place → Result (Item × Place) ReadFault
+abbrev pub after_form : List ℕ × Place → Result (Item × Place) ReadFault
 after_form v = next_number 0 MAX_DEMAND v.1 >>= (λ b. Ok (item_of v.0 b.0, b.1))
 
 row_of_item : (v : List ℕ) (b : ℕ) → vector_row v ++ Some b ∷ [] ≡ plain_item_row (item_of v b)
@@ -68,20 +69,20 @@ forms_each (x ∷ xs) h =
     let one = All-head (λ (x : Item). length x.forms ≡ 1) x xs h in
     rw (sum_by-cons (λ (x : Item). length x.forms) x xs, one, rest) (omega arith)
 
-abbrev Plain : ℕ → List ℕ → List Item → InstanceValue
+abbrev pub Plain : ℕ → List ℕ → List Item → InstanceValue
 Plain n cap xs = record { dims = n; types = record { cap = cap; cost = 1; limit = None } ∷ []; items = xs }
 
 -- what follows each part
-abbrev after_items : ℕ → List ℕ → List Item × Place → Result InstanceValue ReadFault
+abbrev pub after_items : ℕ → List ℕ → List Item × Place → Result InstanceValue ReadFault
 after_items n cap xs = end_at xs.1 >>= (λ _. Ok (Plain n cap xs.0))
 
-abbrev after_count : ℕ → List ℕ → ℕ × Place → Result InstanceValue ReadFault
+abbrev pub after_count : ℕ → List ℕ → ℕ × Place → Result InstanceValue ReadFault
 after_count n cap m = several m.0 (plain_item_behind n) [] m.1 >>= after_items n cap
 
-abbrev after_capacity : ℕ → List ℕ × Place → Result InstanceValue ReadFault
+abbrev pub after_capacity : ℕ → List ℕ × Place → Result InstanceValue ReadFault
 after_capacity n cap = next_number 0 MAX_ITEMS cap.1 >>= after_count n cap.0
 
-abbrev after_dims : ℕ × Place → Result InstanceValue ReadFault
+abbrev pub after_dims : ℕ × Place → Result InstanceValue ReadFault
 after_dims n = next_vector n.0 n.1 >>= after_capacity n.0
 
 -- what the parts of an instance are

@@ -10,6 +10,12 @@ use layout_walk::{Parts, Places, form, vector};
 use packing_laws::{BinType, Instance, Item, Numbers, ReadFault, Vectors};
 use std::alloc::Global;
 
+mod laws;
+
+pub use laws::a_text_reads_as_its_row;
+pub use laws::memory_is_no_place;
+pub use laws::rows_are_worked;
+
 /// The instance that the text spells, or its first bad place.
 pub fn read_vbp(alloc: Global, text: &[u8]) -> Result<Instance, ReadFault>
     requires { length text.now ≤ MAX_INSTANCE }
