@@ -1,6 +1,7 @@
 -- Values that are read one after the other, in a loop.
-use Rattle.std.proofs.Common.{zero, suc, ◌≡◌, ℕ, ◌+◌, ◌-◌, ◌<◌, ◌≤◌, List, [], ◌∷◌, ◌++◌, Result, Ok, Err, refl, sym, ap, ◌∙◌, subst, arith}
+use Rattle.std.proofs.Common.{zero, suc, ◌≡◌, ℕ, ◌+◌, ◌-◌, ◌<◌, ◌≤◌, List, [], ◌∷◌, ◌++◌, Result, Ok, Err, refl, sym, ap, ◌∙◌, subst, ◌⊎◌, inl, inr, arith}
 use Rattle.packing_laws.specs.declared.fault.ReadFault.{ReadFault}
+use Rattle.packing_laws.specs.declared.fault.ReadFault.TheVariants.{Memory}
 use Rattle.packing_laws.specs.Places.{Place, ◌>>=◌, several}
 
 module _ {A : Type 0} (each : List A → Place → Result (A × Place) ReadFault) where
@@ -22,6 +23,11 @@ module _ {A : Type 0} (each : List A → Place → Result (A × Place) ReadFault
   several-fault n i xs p e lt h =
       let count : n - i ≡ suc (n - (i + 1)) = omega arith in
       rw count (several_first_fault (n - (i + 1)) xs p e h)
+
+  -- a fault of the next value, or want of memory, is one of the whole
+  pub several-fails : (n i : ℕ) (xs : List A) (p : Place) (e : ReadFault) (whole : Result (List A × Place) ReadFault) → i < n → several (n - i) each xs p ≡ whole → (e ≡ Memory) ⊎ (each xs p ≡ Err e) → (e ≡ Memory) ⊎ (whole ≡ Err e)
+  several-fails n i xs p e whole lt same (inl m) = inl m
+  several-fails n i xs p e whole lt same (inr h) = inr (sym same ∙ several-fault n i xs p e lt h)
 
   -- all values are read
   pub several-all : (n i : ℕ) (xs : List A) (p : Place) → n ≤ i → several (n - i) each xs p ≡ Ok (xs, p)

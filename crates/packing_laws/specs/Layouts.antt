@@ -19,38 +19,50 @@ pub data Layout : Type 0 where
 abbrev pub forms_of : List Item → ℕ
 forms_of xs = sum_by (λ x. length x.forms) xs
 
--- of one type: the item behind those that are there, which is its one form and its demand
-unfoldable pub plain_item_behind : ℕ → List Item → Place → Result (Item × Place) ReadFault
-plain_item_behind dims xs p = do
-  v ← next_form dims (length xs + 1) 1 p
+-- of one type: an item, which is its one form and its demand
+unfoldable pub next_plain_item : ℕ → ℕ → Place → Result (Item × Place) ReadFault
+next_plain_item dims item p = do
+  v ← next_form dims item 1 p
   b ← next_number 0 MAX_DEMAND v.1
   Ok (record { demand = b.0; forms = v.0 ∷ [] }, b.1)
 
--- of several types: how many forms an item has: Total where they are too many with those of the items before it
+-- the item behind those that are there
+abbrev pub plain_item_behind : ℕ → List Item → Place → Result (Item × Place) ReadFault
+plain_item_behind dims xs p = next_plain_item dims (length xs + 1) p
+
+-- of several types: how many forms an item has; Total where they are too many with those of the items before it
 unfoldable pub next_form_count : ℕ → Place → Result (ℕ × Place) ReadFault
 next_form_count before p = do
   n ← next_number 1 MAX_FORMS p
   if nat_lt MAX_ALL_FORMS (before + n.0) then Err (Total n.1.count) else Ok n
 
 -- the form behind those that are there
-unfoldable pub form_behind : ℕ → ℕ → List (List ℕ) → Place → Result (List ℕ × Place) ReadFault
+abbrev pub form_behind : ℕ → ℕ → List (List ℕ) → Place → Result (List ℕ × Place) ReadFault
 form_behind dims item vs p = next_form dims item (length vs + 1) p
 
--- the item behind those that are there: its number of forms, its demand and its forms
-unfoldable pub item_behind : ℕ → List Item → Place → Result (Item × Place) ReadFault
-item_behind dims xs p = do
-  n ← next_form_count (forms_of xs) p
+-- an item: its number of forms, its demand and its forms
+unfoldable pub next_item : ℕ → ℕ → ℕ → Place → Result (Item × Place) ReadFault
+next_item dims item before p = do
+  n ← next_form_count before p
   b ← next_number 0 MAX_DEMAND n.1
-  vs ← several n.0 (form_behind dims (length xs + 1)) [] b.1
+  vs ← several n.0 (form_behind dims item) [] b.1
   Ok (record { demand = b.0; forms = vs.0 }, vs.1)
 
+-- the item behind those that are there
+abbrev pub item_behind : ℕ → List Item → Place → Result (Item × Place) ReadFault
+item_behind dims xs p = next_item dims (length xs + 1) (forms_of xs) p
+
 -- a type of bins: its capacities, its cost and its limit
-unfoldable pub type_behind : ℕ → List BinType → Place → Result (BinType × Place) ReadFault
-type_behind dims ts p = do
+unfoldable pub next_type : ℕ → Place → Result (BinType × Place) ReadFault
+next_type dims p = do
   cap ← next_vector dims p
   cost ← next_number 0 MAX_VALUE cap.1
   limit ← next_limit cost.1
   Ok (record { cap = cap.0; cost = cost.0; limit = limit.0 }, limit.1)
+
+-- the type behind those that are there
+abbrev pub type_behind : ℕ → List BinType → Place → Result (BinType × Place) ReadFault
+type_behind dims ts p = next_type dims p
 
 -- the whole text with one type of cost 1 without limit: dimensions, capacities, number of items, items
 unfoldable pub plain_instance_at : Place → Result InstanceValue ReadFault

@@ -85,3 +85,7 @@ Gives result after read = MatchResult result (λ x. read ≡ Ok (x, after)) (λ 
 -- the same of a call that takes memory, which may also return want of memory
 abbrev pub GivesOrMemory : {A : Type 0} → Result A ReadFault → Place → Result (A × Place) ReadFault → Type 0
 GivesOrMemory result after read = MatchResult result (λ x. read ≡ Ok (x, after)) (λ e. (e ≡ Memory) ⊎ (read ≡ Err e))
+
+-- the last call of a walk returned the answer, or want of memory
+abbrev pub AnswersOrMemory : {A : Type 0} → Result A ReadFault → Result A ReadFault → Type 0
+AnswersOrMemory result answer = MatchResult result (λ x. answer ≡ Ok x) (λ e. (e ≡ Memory) ⊎ (answer ≡ Err e))
