@@ -1,13 +1,10 @@
-// A library with one function.
+//! Graphs with labels of `N` weights at their nodes and pieces on their arcs.
 #![tactic(auto)]
 
-ghost use Rattle.std.specs.Prelude.{◌≡◌};
-ghost use Rattle.label_graph.specs.Echo.{echo_of};
+mod graph;
+mod laws;
+mod parts;
 
-// The `ensures` clause is the contract: what `echo` returns is `echo_of` of its argument, a definition
-// in `specs/Echo.antt`, which a caller's clause can cite too.
-pub fn echo(x: usize) -> usize
-    ensures { result ≡ echo_of x }
-{
-    x
-}
+pub use graph::Graph;
+pub use laws::{labels_bound_weights, nodes_lie_on_paths};
+pub use parts::{GraphArc, GraphFault, Mark, Piece};
