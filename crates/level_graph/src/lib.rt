@@ -1,13 +1,12 @@
-// A library with one function.
+//! The level graph of a list of pieces: the ways to take copies of one piece after the other while they fit.
 #![tactic(auto)]
 
-ghost use Rattle.std.specs.Prelude.{◌≡◌};
-ghost use Rattle.level_graph.specs.Echo.{echo_of};
+mod counts;
+mod laws;
+mod layers;
+mod build;
+mod states;
 
-// The `ensures` clause is the contract: what `echo` returns is `echo_of` of its argument, a definition
-// in `specs/Echo.antt`, which a caller's clause can cite too.
-pub fn echo(x: usize) -> usize
-    ensures { result ≡ echo_of x }
-{
-    x
-}
+pub use counts::level_counts;
+pub use laws::{choices_have_one_path, levels_are_one, paths_are_choices};
+pub use build::levels;
