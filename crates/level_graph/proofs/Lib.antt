@@ -5,3 +5,6 @@ pub mod LayerSteps
 pub mod Weighings
 pub mod Reached
 pub mod SoFar
+pub mod Arcs
+pub mod Search
+pub mod Pushes

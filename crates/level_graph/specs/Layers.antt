@@ -1,5 +1,5 @@
 -- The states at one piece, from the weights that enter it.
-use Rattle.std.specs.Prelude.{◌≡◌, ◌↔◌, ℕ, ◌+◌, ◌-◌, ◌<◌, ◌==◌, ◌&&◌, nat_lt, nat_le, if◌then◌else◌, Bool, true, false, List, [], ◌∷◌, ◌++◌, All, AllPairs, Contains, length, map, slice_get, slice_index_or, option_to_list}
+use Rattle.std.specs.Prelude.{◌≡◌, ◌⊎◌, ◌↔◌, ℕ, ◌+◌, ◌-◌, ◌<◌, ◌==◌, ◌&&◌, nat_lt, nat_le, if◌then◌else◌, Bool, true, false, List, [], ◌∷◌, ◌++◌, All, AllPairs, Contains, length, map, slice_get, slice_index_or, option_to_list}
 use Rattle.std.specs.declared.option.Option.{Option}
 use Rattle.std.specs.declared.option.Option.TheVariants.{Some, None}
 use Rattle.std.specs.List.{filter_map}
@@ -9,7 +9,7 @@ use Rattle.label_graph.specs.declared.parts.Mark.TheVariants.{Loss, Piece as Car
 use Rattle.label_graph.specs.declared.parts.Piece.{Piece}
 use Rattle.weight_vec.specs.Weight.{Before, plus}
 use Rattle.level_graph.specs.declared.states.State.{State}
-use Rattle.level_graph.specs.Levels.{StateBefore, IsNode, IsReached, target}
+use Rattle.level_graph.specs.Levels.{StateBefore, IsNode, IsReached, Step, target}
 
 -- is there at most as much in each place?
 abbrev pub at_most : List ℕ → List ℕ → Bool
@@ -37,14 +37,6 @@ pub record AreWeights {N : ℕ} (layer : List (State N)) (weights : List (List �
   pub ordered : AllPairs Before weights
   pub exact : (x : List ℕ) → Contains weights x ↔ ((s : State N) × Contains layer s × (s.used ≡ x))
 
--- the state after one more copy of the piece at which it stands
-abbrev pub taken_as : {N : ℕ} → Option (Piece N) → List ℕ → State N → Option (State N)
-taken_as None cap s = None
-taken_as (Some piece) cap s = taken piece cap s
-
-abbrev pub taken_at : {N : ℕ} → List (Piece N) → List ℕ → State N → Option (State N)
-taken_at pieces cap s = taken_as (slice_get pieces (s.piece - 1)) cap s
-
 -- the state at the next piece, or the target
 abbrev pub skipped : {N : ℕ} → List (Piece N) → List ℕ → State N → Option (State N)
 skipped pieces cap s = if nat_lt s.piece (length pieces) then Some (record { piece = s.piece + 1; copies = 0; used = s.used }) else (if s.piece == length pieces then Some (target pieces cap) else None)
@@ -62,15 +54,14 @@ pub record IsArcPushed {N : ℕ} (states : List (State N)) (index : ℕ) (mark :
   pub mark_is : arc.mark ≡ mark
   pub pushed : new ≡ old ++ arc ∷ []
 
--- one more arc where there is a state that follows, and else none
-abbrev pub IsPushed : {N : ℕ} → List (State N) → ℕ → Mark → Option (State N) → List GraphArc → List GraphArc → Type 0
-IsPushed states index mark None old new = new ≡ old
-IsPushed states index mark (Some next) old new = IsArcPushed states index mark next old new
+-- one more arc where a step with this mark leads on from the state at an index, and else none
+abbrev pub AppendsStep : {N : ℕ} → List (Piece N) → List ℕ → List (State N) → ℕ → (State N → Mark) → List GraphArc → List GraphArc → Type 0
+AppendsStep {N} pieces cap states index mark old new = (s : State N) → IsNode states (index + 1) s → ((t : State N) × Step pieces cap s (mark s) t × IsArcPushed states index (mark s) t old new) ⊎ (((t : State N) → Step pieces cap s (mark s) t → ⊥) × (new ≡ old))
 
--- what stands at an index is followed by the arc of its take
-abbrev pub IsTakePushed : {N : ℕ} → List (Piece N) → List ℕ → List (State N) → ℕ → List GraphArc → List GraphArc → Type 0
-IsTakePushed {N} pieces cap states index old new = (s : State N) → slice_get states index ≡ Some s → IsPushed states index (Carries s.piece) (taken_at pieces cap s) old new
+-- the mark of a take from a state
+abbrev pub take_mark : {N : ℕ} → State N → Mark
+take_mark s = Carries s.piece
 
--- what stands at an index is followed by the arc of its skip
-abbrev pub IsSkipPushed : {N : ℕ} → List (Piece N) → List ℕ → List (State N) → ℕ → List GraphArc → List GraphArc → Type 0
-IsSkipPushed {N} pieces cap states index old new = (s : State N) → slice_get states index ≡ Some s → IsPushed states index Loss (skipped pieces cap s) old new
+-- the mark of a skip
+abbrev pub skip_mark : {N : ℕ} → State N → Mark
+skip_mark s = Loss

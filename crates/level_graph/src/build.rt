@@ -1,6 +1,6 @@
 ghost use Rattle.std.specs.Prelude.{◌≡◌, ◌<◌, ◌≤◌, length, AllPairs, Contains, IfOk, OnOk};
 ghost use Rattle.level_graph.specs.Levels.{IsPieceList, IsLevelGraph, IsLevels, IsNode, StateBefore, target};
-ghost use Rattle.level_graph.specs.Layers.{AreStates, IsTakePushed, IsSkipPushed, skipped};
+ghost use Rattle.level_graph.specs.Layers.{AreStates, AppendsStep, take_mark, skip_mark, skipped};
 
 use crate::layers::{layer_of, take, used_weights, weights_of};
 use crate::states::State;
@@ -95,17 +95,19 @@ fn push_take<const N: usize>(arcs: &mut Vec<GraphArc>, pieces: &[Piece<N>], cap:
     requires small { N ≤ 32 }
     requires states { AreStates pieces.now cap.now states.now }
     requires index { index < length states.now }
-    ensures { OnOk result (IsTakePushed pieces.now cap.now states.now index arcs.old.items arcs.new.items) }
+    ensures { OnOk result (AppendsStep pieces.now cap.now states.now index take_mark arcs.old.items arcs.new.items) }
 {
-    let state = states[index];
-    if let Some(piece) = pieces.get(state.piece as usize - 1) {
-        if let Some(next) = take(&state, piece, cap) {
-            arcs.push(GraphArc {
-                tail: index as u64 + 1,
-                head: node_of(states, &next),
-                mark: Mark::Piece(state.piece),
-            })?;
-        }
+    let state = &states[index];
+    let number = state.piece as usize;
+    if number > pieces.len() {
+        return Ok(());
+    }
+    if let Some(next) = take(state, &pieces[number - 1], cap) {
+        arcs.push(GraphArc {
+            tail: index as u64 + 1,
+            head: node_of(states, &next),
+            mark: Mark::Piece(state.piece),
+        })?;
     }
     Ok(())
 }
@@ -116,7 +118,7 @@ fn push_skip<const N: usize>(arcs: &mut Vec<GraphArc>, pieces: &[Piece<N>], cap:
     requires few { length pieces.now ≤ 8000 }
     requires states { AreStates pieces.now cap.now states.now }
     requires index { index < length states.now }
-    ensures { OnOk result (IsSkipPushed pieces.now cap.now states.now index arcs.old.items arcs.new.items) }
+    ensures { OnOk result (AppendsStep pieces.now cap.now states.now index skip_mark arcs.old.items arcs.new.items) }
 {
     if let Some(next) = skip(&states[index], pieces, cap) {
         arcs.push(GraphArc {
