@@ -29,7 +29,7 @@ module _ {N : ℕ} where
       sym a.2 ∙ get_or_default states (v - 1) s t in_range ∙ b.2
 
   -- of two nodes the first state comes before the second one
-  nodes-before : (states : List (State N)) → AllPairs StateBefore states → (v w : ℕ) (s t : State N) → IsNode states v s → IsNode states w t → v < w → StateBefore s t
+  pub nodes-before : (states : List (State N)) → AllPairs StateBefore states → (v w : ℕ) (s t : State N) → IsNode states v s → IsNode states w t → v < w → StateBefore s t
   nodes-before states up v w s t a b lt =
       let in_range : v - 1 < length states = omega (arith, a.1, b.1) in
       let there : w - 1 < length states = omega (arith, b.0, b.1) in

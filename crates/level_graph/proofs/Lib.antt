@@ -8,3 +8,5 @@ pub mod SoFar
 pub mod Arcs
 pub mod Search
 pub mod Pushes
+pub mod GraphOf
+pub mod Counting

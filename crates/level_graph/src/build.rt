@@ -1,4 +1,5 @@
-ghost use Rattle.std.specs.Prelude.{◌≡◌, ◌<◌, ◌≤◌, length, AllPairs, Contains, IfOk, OnOk};
+ghost use Rattle.std.specs.Prelude.{◌≡◌, ◌<◌, ◌≤◌, length, All, AllPairs, Contains, IfOk, OnOk};
+ghost use Rattle.weight_vec.specs.Weight.{IsInRange};
 ghost use Rattle.level_graph.specs.Levels.{IsPieceList, IsLevelGraph, IsLevels, IsNode, StateBefore, target};
 ghost use Rattle.level_graph.specs.Layers.{AreStates, AppendsStep, take_mark, skip_mark, skipped};
 
@@ -20,7 +21,31 @@ pub fn levels<const N: usize>(alloc: Global, pieces: &[Piece<N>], cap: &Weights<
     let arcs = arcs_of(alloc, pieces, cap, states.as_slice())?;
     let labels = used_weights(alloc, states.as_slice())?;
     let pieces = Vec::from_slice(alloc, pieces)?;
+    known_weights(labels.as_slice());
+    known_pieces(pieces.as_slice());
     Ok(Graph::new(pieces, labels, arcs))
+}
+
+// A call that costs nothing: how many numbers each weight has, and their range.
+fn known_weights<const N: usize>(weights: &[Weights<N>])
+    requires small { N ≤ 32 }
+    ensures sized { All (λ l. length l ≡ N) weights.now }
+    ensures ranged { All (λ l. IsInRange l) weights.now }
+{
+    for weight in weights {
+        weight.known();
+    }
+}
+
+// The same of the weights of pieces.
+fn known_pieces<const N: usize>(pieces: &[Piece<N>])
+    requires small { N ≤ 32 }
+    ensures sized { All (λ q. length q.weight ≡ N) pieces.now }
+    ensures ranged { All (λ q. IsInRange q.weight) pieces.now }
+{
+    for piece in pieces {
+        piece.weight.known();
+    }
 }
 
 // All states, in order, the target last.

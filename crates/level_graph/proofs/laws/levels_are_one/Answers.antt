@@ -1,4 +1,4 @@
-use Rattle.level_graph.proofs.Arcs.{arcs-start}
+use Rattle.level_graph.proofs.Counting.{piece_there}
 use Rattle.level_graph.proofs.laws.levels_are_one.Goals as goal
 
 pub returns : goal.returns
