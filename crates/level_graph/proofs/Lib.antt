@@ -1,0 +1,12 @@
+pub mod Members
+pub mod StateOrder
+pub mod Takes
+pub mod LayerSteps
+pub mod Weighings
+pub mod Reached
+pub mod SoFar
+pub mod Arcs
+pub mod Search
+pub mod Pushes
+pub mod GraphOf
+pub mod Counting
