@@ -11,9 +11,11 @@ ghost use Rattle.arc_program.specs.Inputs.{IsInput, CountsInput};
 use crate::loading::{LoadFault, load};
 use crate::words::Command;
 use arc_io::Shelf;
+use mvp_reader::read_mvp;
 use packing_laws::{Instance, ReadFault};
 use std::alloc::Global;
 use thiserror::Error;
+use vbp_reader::read_vbp;
 
 /// Why no instance was read.
 #[derive(Clone, Copy, Debug, PartialEq, Eq, Error)]
@@ -37,7 +39,11 @@ fn parse(alloc: Global, text: &[u8], mvp: bool) -> Result<Instance, ReadFault>
     requires { length text.now ≤ MAX_INSTANCE }
     ensures { MatchResult result (λ I. Reads (layout_for mvp) text.now I) (λ fault. (fault ≡ ReadFault.Memory) ⊎ BadPlace (layout_for mvp) text.now fault) }
 {
-    Err(ReadFault::Memory)
+    if mvp {
+        read_mvp(alloc, text)
+    } else {
+        read_vbp(alloc, text)
+    }
 }
 
 /// Reads the instance that a command names, to its end.

@@ -37,10 +37,46 @@ impl Answer {
     }
 }
 
-fn answer_of(_alloc: Global, _instance: &Instance) -> Result<Answer, Memory>
-    ensures { IfOk result (IsAnswer _instance.now) }
+/// Brings a packing into the printed form.
+fn tidied(alloc: Global, packing: Packing) -> Result<Packing, Memory> {
+    Ok(packing)
+}
+
+/// The answer with a packing at the single cost.
+fn packed_answer(instance: &Instance, packing: Packing) -> Answer
+    requires { IsUnitPacking instance.now (cost_of instance.now (bins_of packing)) packing }
+    ensures { IsAnswer instance.now result }
 {
-    Err(Memory)
+    material_is_floor();
+    let lower = material_bound(instance);
+    let cost = cost(instance, &packing);
+    if cost == lower {
+        Answer::Optimal { cost, packing }
+    } else {
+        Answer::Bracket {
+            lower,
+            cost,
+            packing,
+        }
+    }
+}
+
+/// The answer for an instance.
+fn answer_of(alloc: Global, instance: &Instance) -> Result<Answer, Memory>
+    ensures { IfOk result (IsAnswer instance.now) }
+{
+    if homeless_item(instance).is_some() {
+        no_place_no_packing();
+        return Ok(Answer::Infeasible);
+    }
+    match unit_packing(alloc, instance)? {
+        Some(packing) => Ok(packed_answer(instance, packing)),
+        None => {
+            material_is_floor();
+            let lower = material_bound(instance);
+            Ok(Answer::Unpacked { lower })
+        }
+    }
 }
 
 fn solve(alloc: Global, instance: &Instance) -> Result<Report, Memory>
