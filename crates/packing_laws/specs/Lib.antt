@@ -3,3 +3,4 @@ pub mod Packings
 pub mod Printed
 pub mod Floors
 pub mod Choices
+pub mod FloorExamples
