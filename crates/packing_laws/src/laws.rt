@@ -1,6 +1,7 @@
 //! What holds of every instance: a call of a law brings it to a proof.
 
 ghost use Rattle.packing_laws.specs.Floors.{MaterialIsFloor, BestTypeGivesFloor, NoPlaceNoPacking, SingleIsReached};
+ghost use Rattle.packing_laws.specs.FloorExamples.{FloorsComeOut};
 
 /// No packing costs less than the material bound.
 pub fn material_is_floor()
@@ -20,4 +21,9 @@ pub fn no_place_no_packing()
 /// Where each item with a demand fits some type without limit, some packing costs exactly the single cost.
 pub fn single_is_reached()
     ensures { SingleIsReached }
+{}
+
+/// What the definitions of the bounds say of worked instances.
+pub fn floors_come_out()
+    ensures { FloorsComeOut }
 {}

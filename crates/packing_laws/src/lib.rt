@@ -12,13 +12,18 @@ mod numbers;
 mod packings;
 mod places;
 mod single;
+#[cfg(test)]
+mod tests;
 
 pub use apart::units_apart;
 pub use costs::cost;
 pub use fault::ReadFault;
 pub use floors::material_bound;
 pub use instances::{BinType, Instance, Item};
-pub use laws::{best_type_gives_floor, material_is_floor, no_place_no_packing, single_is_reached};
+pub use laws::{
+    best_type_gives_floor, floors_come_out, material_is_floor, no_place_no_packing,
+    single_is_reached,
+};
 pub use numbers::{Numbers, Vectors};
 pub use packings::{Bin, Count, Counts, Packing};
 pub use places::homeless_item;

@@ -1,0 +1,186 @@
+//! Values from worked instances.
+
+use crate::{
+    Bin, BinType, Count, Counts, Instance, Item, Numbers, Packing, Vectors, best_type_gives_floor,
+    cost, floors_come_out, homeless_item, material_bound, material_is_floor, no_place_no_packing,
+    single_cost, single_is_reached, units_apart,
+};
+use arc_num::Memory;
+use std::alloc::Global;
+use std::process::Abort;
+use std::test::Fail;
+
+fn bin_type(alloc: Global, cap: &[u32], cost: u32, limit: Option<u32>) -> Result<BinType, Memory> {
+    Ok(BinType {
+        cap: Numbers::new(Vec::from_slice(alloc, cap)?),
+        cost,
+        limit,
+    })
+}
+
+/// An instance of one type and one item with one form.
+fn plain(
+    alloc: Global,
+    cap: &[u32],
+    limit: Option<u32>,
+    demand: u32,
+    form: &[u32],
+) -> Result<Option<Instance>, Memory> {
+    let types = vec![in alloc; bin_type(alloc, cap, 1, limit)?]?;
+    let forms = vec![in alloc; Numbers::new(Vec::from_slice(alloc, form)?)]?;
+    let items = vec![in alloc;
+        Item {
+            demand,
+            forms: Vectors::new(forms)
+        },
+    ]?;
+    Ok(Instance::new(1, types, items))
+}
+
+fn expect_floors(
+    rt: &impl Abort,
+    instance: &Instance,
+    material: u128,
+    single: Option<u128>,
+    homeless: Option<u32>,
+) {
+    assert_eq!(rt; material_bound(instance), material);
+    assert_eq!(rt; single_cost(instance), single);
+    assert_eq!(rt; homeless_item(instance), homeless);
+}
+
+fn needs_send<T: Send + Sync>(_shared: &T) {}
+
+#[test]
+fn three_units_of_six(rt: HostRuntime) -> Result<(), Fail> {
+    let instance = plain(rt.alloc(), &[10], None, 3, &[6])?.ok_or("an instance")?;
+    expect_floors(&rt, &instance, 2, Some(3), None);
+    needs_send(&instance);
+    assert_eq!(rt; instance.dims(), 1);
+    assert_eq!(rt; instance.type_count(), 1);
+    assert_eq!(rt; instance.item_count(), 1);
+    assert_eq!(rt; instance.units(), 3);
+    assert_eq!(rt; instance.types().len(), 1);
+    assert_eq!(rt; instance.items().len(), 1);
+    assert_eq!(rt; instance.bin_type(1).map(|bin_type| bin_type.cost), Some(1));
+    assert!(rt; instance.bin_type(0).is_none() && instance.bin_type(2).is_none());
+    assert_eq!(rt; instance.item(1).map(|item| item.demand), Some(3));
+    assert!(rt; instance.item(0).is_none() && instance.item(2).is_none());
+    Ok(())
+}
+
+#[test]
+fn units_of_six_apart(rt: HostRuntime) -> Result<(), Fail> {
+    let instance = plain(rt.alloc(), &[10], None, 3, &[6])?.ok_or("an instance")?;
+    let packing = units_apart(rt.alloc(), &instance)?.ok_or("a packing")?;
+    assert_eq!(rt; packing.bins().len(), 1);
+    assert_eq!(rt; packing.bins()[0].bin_type, 1);
+    assert_eq!(rt; packing.bins()[0].times, 3);
+    assert_eq!(rt;
+        packing.bins()[0].counts.as_slice(),
+        [Count {
+            item: 1,
+            form: 1,
+            count: 1
+        }]
+        .as_slice()
+    );
+    assert_eq!(rt; cost(&instance, &packing), 3);
+    Ok(())
+}
+
+#[test]
+fn one_item_without_place(rt: HostRuntime) -> Result<(), Fail> {
+    let instance = plain(rt.alloc(), &[10], None, 1, &[11])?.ok_or("an instance")?;
+    expect_floors(&rt, &instance, 2, None, Some(1));
+    assert!(rt; units_apart(rt.alloc(), &instance)?.is_none());
+    let idle = plain(rt.alloc(), &[10], None, 0, &[11])?.ok_or("an instance")?;
+    expect_floors(&rt, &idle, 0, Some(0), None);
+    let limited = plain(rt.alloc(), &[10], Some(1), 2, &[6])?.ok_or("an instance")?;
+    expect_floors(&rt, &limited, 2, None, None);
+    Ok(())
+}
+
+#[test]
+fn numbers_outside_the_limits(rt: HostRuntime) -> Result<(), Fail> {
+    let alloc = rt.alloc();
+    assert!(rt; plain(alloc, &[10], None, 1, &[0])?.is_none());
+    assert!(rt; plain(alloc, &[10], None, 1, &[6, 6])?.is_none());
+    assert!(rt; plain(alloc, &[10, 10], None, 1, &[6])?.is_none());
+    assert!(rt; plain(alloc, &[2_147_483_648], None, 1, &[6])?.is_none());
+    assert!(rt; plain(alloc, &[10], Some(2_147_483_648), 1, &[6])?.is_none());
+    assert!(rt; plain(alloc, &[10], None, 1_000_001, &[6])?.is_none());
+    Ok(())
+}
+
+#[test]
+fn no_items(rt: HostRuntime) -> Result<(), Fail> {
+    let alloc = rt.alloc();
+    let types = vec![in alloc; bin_type(alloc, &[10], 1, None)?]?;
+    let instance = Instance::new(1, types, Vec::new(alloc)).ok_or("an instance")?;
+    expect_floors(&rt, &instance, 0, Some(0), None);
+    Ok(())
+}
+
+#[test]
+fn a_limited_type_and_a_dear_one(rt: HostRuntime) -> Result<(), Fail> {
+    let alloc = rt.alloc();
+    let types = vec![in alloc;
+        bin_type(alloc, &[10], 1, Some(1))?,
+        bin_type(alloc, &[10], 5, None)?,
+    ]?;
+    let forms = vec![in alloc; Numbers::new(vec![in alloc; 6]?)]?;
+    let items = vec![in alloc;
+        Item {
+            demand: 2,
+            forms: Vectors::new(forms)
+        },
+    ]?;
+    let instance = Instance::new(1, types, items).ok_or("an instance")?;
+    expect_floors(&rt, &instance, 2, Some(10), None);
+    Ok(())
+}
+
+#[test]
+fn two_forms_in_two_dimensions(rt: HostRuntime) -> Result<(), Fail> {
+    let alloc = rt.alloc();
+    let types = vec![in alloc; bin_type(alloc, &[3, 3], 1, None)?]?;
+    let forms = vec![in alloc;
+        Numbers::new(vec![in alloc; 3, 0]?),
+        Numbers::new(vec![in alloc; 0, 3]?),
+    ]?;
+    let items = vec![in alloc;
+        Item {
+            demand: 2,
+            forms: Vectors::new(forms)
+        },
+    ]?;
+    let instance = Instance::new(2, types, items).ok_or("an instance")?;
+    expect_floors(&rt, &instance, 0, Some(2), None);
+    Ok(())
+}
+
+#[test]
+fn bins_of_types_that_do_not_exist(rt: HostRuntime) -> Result<(), Fail> {
+    let alloc = rt.alloc();
+    let instance = plain(alloc, &[10], None, 3, &[6])?.ok_or("an instance")?;
+    let mut bins = Vec::new(alloc);
+    for bin_type in [0, 1, 2] {
+        bins.push(Bin {
+            bin_type,
+            times: 7,
+            counts: Counts::new(Vec::new(alloc)),
+        })?;
+    }
+    assert_eq!(rt; cost(&instance, &Packing::new(bins)), 7);
+    Ok(())
+}
+
+#[test]
+fn laws_hold() {
+    material_is_floor();
+    best_type_gives_floor();
+    no_place_no_packing();
+    single_is_reached();
+    floors_come_out();
+}
