@@ -3,7 +3,8 @@
 ghost use Rattle.packing_laws.specs.Layouts.{Mvp, ReadsItsRow, MemoryIsNoPlace};
 ghost use Rattle.mvp_reader.specs.Worked.{Rows};
 
-/// A text reads as an instance exactly where its tokens are the row of numbers of this instance.
+/// A text reads as an instance exactly where each of its tokens is digits with the value of the number in its place of
+/// the row of this instance, or is -1 where the place is a limit and there is none.
 pub fn a_text_reads_as_its_row()
     ensures { ReadsItsRow Mvp }
 {

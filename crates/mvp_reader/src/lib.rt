@@ -72,7 +72,7 @@ fn read_type(alloc: Global, places: &mut Places, dims: u32) -> Result<BinType, R
     Ok(BinType { cap, cost, limit })
 }
 
-#[tactic(auto, using(layout_walk::proofs::Repeats::repeats))]
+#[tactic(auto, using(crate::proofs::Steps::item_steps))]
 fn read_items(alloc: Global, places: &mut Places, dims: u32, count: u32) -> Result<Vec<Item>, ReadFault>
     ensures {
         let read = several count (item_behind dims) [] places.old in

@@ -143,6 +143,18 @@ BadPlace layout text e = reading_of layout text ≡ Err e
 abbrev pub ReadsItsRow : Layout → Type 0
 ReadsItsRow layout = (text : List ℕ) (I : InstanceValue) → Reads layout text I ↔ (HasLayout layout I × Spells (tokens_of text) (row_of layout I))
 
+-- an instance of one type as a row of numbers: dimensions, capacities, number of items, and for each item its weights and
+-- its demand
+abbrev pub plain_numbers_of : InstanceValue → List ℕ
+plain_numbers_of I = I.dims ∷ (flat_map (λ t. t.cap) I.types ++ length I.items ∷ flat_map (λ x. flat_map (λ v. v) x.forms ++ x.demand ∷ []) I.items)
+
+-- a text of one type reads as an instance exactly where this has one type and one form for each item, all tokens are digits,
+-- and their values are the row of its numbers
+abbrev pub ReadsItsNumbers : Type 0
+ReadsItsNumbers =
+    (text : List ℕ) (I : InstanceValue) →
+    Reads Vbp text I ↔ (HasLayout Vbp I × All (λ t. are_digits t ≡ true) (tokens_of text) × (map value_of (tokens_of text) ≡ plain_numbers_of I))
+
 -- each text reads as one instance or has one bad place, and not both
 pub record ReadsOrBadPlace (layout : Layout) (text : List ℕ) : Type 0 where
   pub some : ((I : InstanceValue) × Reads layout text I) ⊎ ((e : ReadFault) × BadPlace layout text e)

@@ -12,6 +12,7 @@ use std::alloc::Global;
 
 mod laws;
 
+pub use laws::a_text_reads_as_its_numbers;
 pub use laws::a_text_reads_as_its_row;
 pub use laws::memory_is_no_place;
 pub use laws::rows_are_worked;
