@@ -56,7 +56,7 @@ module _ {N : ℕ} (pieces : List (Piece N)) (room : List ℕ) where
   abbrev pub skips : List (State N) → ℕ
   skips ss = length (filter_map (skipped pieces room) ss)
 
-  beyond : (ps : List (Piece N)) → length ps < (target ps room).piece
+  pub beyond : (ps : List (Piece N)) → length ps < (target ps room).piece
   beyond [] = omega arith
   beyond (p ∷ ps) = omega arith
 

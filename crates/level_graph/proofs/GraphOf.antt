@@ -52,7 +52,7 @@ module _ {N : ℕ} (pieces : List (Piece N)) (room : List ℕ) where
   first-source_at (suc n) s h first none = absurd (step-not_first h.0 s h.2.0 (reached-low pieces room h.0 (n, h.1)) h.2.1 first none)
 
   -- nothing comes before the source
-  source-first : (s : State N) → IsReached pieces room s → StateBefore s (source N) → ⊥
+  pub source-first : (s : State N) → IsReached pieces room s → StateBefore s (source N) → ⊥
   source-first s h before =
       let low = reached-low pieces room s h in
       let le = before-piece_le s (source N) before in
@@ -63,7 +63,7 @@ module _ {N : ℕ} (pieces : List (Piece N)) (room : List ℕ) where
           (before-cases s (source N) first before)
 
   -- nothing comes after the target
-  target-last : (s : State N) → IsReached pieces room s → StateBefore (target pieces room) s → ⊥
+  pub target-last : (s : State N) → IsReached pieces room s → StateBefore (target pieces room) s → ⊥
   target-last s h before =
       let low = reached-low pieces room s h in
       ⊎_elim
