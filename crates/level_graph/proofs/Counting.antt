@@ -1,6 +1,6 @@
 -- How many arcs there are.
-use Rattle.std.proofs.Common.{◌≡◌, ℕ, zero, suc, ◌+◌, ◌-◌, ◌<◌, ◌≤◌, ◌⊎◌, List, [], ◌∷◌, ◌++◌, length, get_or, take, replicate, refl, sym, ap, ◌∙◌, subst, inl, inr, ⊎_elim, Option, Some, None, arith}
-use Rattle.std.specs.Prelude.{Contains, All, AllPairs}
+use Rattle.std.proofs.Common.{◌≡◌, ℕ, zero, suc, ◌+◌, ◌-◌, ◌<◌, ◌≤◌, List, [], ◌∷◌, ◌++◌, length, get_or, take, replicate, refl, sym, ap, ◌∙◌, subst, ⊎_elim, Option, Some, None, arith}
+use Rattle.std.specs.Prelude.{Contains}
 use Rattle.std.specs.List.{filter_map, cons_option}
 use Rattle.std.proofs.lemmas.Bool.{cases_lt}
 use Rattle.std.proofs.lemmas.List.{take_more, length-append}
@@ -9,13 +9,13 @@ use Rattle.std.proofs.Math.Seq.{take-length}
 use Rattle.label_graph.specs.declared.parts.GraphArc.{GraphArc}
 use Rattle.label_graph.specs.declared.parts.Piece.{Piece}
 use Rattle.label_graph.specs.declared.parts.Mark.{Mark}
-use Rattle.label_graph.specs.declared.parts.Mark.TheVariants.{Loss, Piece as Carries}
+use Rattle.label_graph.specs.declared.parts.Mark.TheVariants.{Piece as Carries}
 use Rattle.level_graph.specs.declared.states.State.{State}
-use Rattle.level_graph.specs.Levels.{Step, IsReached, IsNode, IsLevels, IsLevelCount, target}
-use Rattle.level_graph.specs.Layers.{taken, skipped, entered, IsLayer, AreStates, AreWeights, IsArcPushed, AppendsStep, take_mark, skip_mark}
+use Rattle.level_graph.specs.Levels.{Step, IsLevelCount, target}
+use Rattle.level_graph.specs.Layers.{taken, skipped, entered, IsLayer, AreStates, AreWeights, AppendsStep, take_mark, skip_mark}
 use Rattle.level_graph.proofs.Members.{contains_here, contains_there}
 use Rattle.level_graph.proofs.LayerSteps.{entries}
-use Rattle.level_graph.proofs.Reached.{reached-low, take-step, step-take, target-piece}
+use Rattle.level_graph.proofs.Reached.{reached-low}
 use Rattle.level_graph.proofs.Arcs.{ArcsSoFar, arcs-start, arcs-more, arcs-all, node-at, contains-node}
 use Rattle.level_graph.proofs.SoFar.{SoFar, so_far-start, so_far-more, so_far-end}
 use Rattle.level_graph.proofs.Pushes.{skip-step, step-skip, skipped-on, skipped-end, skipped-past, appends-one, appends-none, step-contained, take-is_step, step-is_take}
@@ -86,9 +86,9 @@ module _ {N : ℕ} (pieces : List (Piece N)) (room : List ℕ) where
       let rest : skips ss ≡ length ss = skips-all ss (λ t m. low t (contains_there s ss t m)) in
       let first = low s (contains_here s ss) in
       ⊎_elim
-          (λ lt. ap (λ (o : Option (State N)). length (cons_option o (filter_map (skipped pieces room) ss))) (skipped-on pieces room s lt) ∙ ap suc rest)
-          (λ ge. ap (λ (o : Option (State N)). length (cons_option o (filter_map (skipped pieces room) ss))) (skipped-end pieces room s (omega arith)) ∙ ap suc rest)
-          (cases_lt s.piece (length pieces))
+      (λ lt. ap (λ (o : Option (State N)). length (cons_option o (filter_map (skipped pieces room) ss))) (skipped-on pieces room s lt) ∙ ap suc rest)
+      (λ ge. ap (λ (o : Option (State N)). length (cons_option o (filter_map (skipped pieces room) ss))) (skipped-end pieces room s (omega arith)) ∙ ap suc rest)
+      (cases_lt s.piece (length pieces))
 
   filter_map-same : (f h : State N → Option (State N)) (ss : List (State N)) → ((s : State N) → Contains ss s → f s ≡ h s) → filter_map f ss ≡ filter_map h ss
   filter_map-same f h [] same = refl
@@ -102,9 +102,9 @@ module _ {N : ℕ} (pieces : List (Piece N)) (room : List ℕ) where
   takes-layer k piece entering layer lt at is =
       let here : (s : State N) → Contains layer s → s.piece ≡ k + 1 = λ s m. All-contains (λ (z : State N). z.piece ≡ k + 1) layer s is.here m in
       let same : filter_map taken_here layer ≡ filter_map (taken piece room) layer = filter_map-same taken_here (taken piece room) layer (λ s m.
-          let there = here s m in
-          let index : k ≡ s.piece - 1 = omega arith in
-          taken_here-at s piece (omega arith) (subst (λ (i : ℕ). piece ≡ get_or pieces i piece) index at)) in
+      let there = here s m in
+      let index : k ≡ s.piece - 1 = omega arith in
+      taken_here-at s piece (omega arith) (subst (λ (i : ℕ). piece ≡ get_or pieces i piece) index at)) in
       let whole : length layer ≡ length (entered {N = N} (k + 1) entering) + length (filter_map (taken piece room) layer) = ap length is.whole ∙ length-append (entered (k + 1) entering) (filter_map (taken piece room) layer) in
       let count : length (filter_map taken_here layer) ≡ length (filter_map (taken piece room) layer) = ap length same in
       omega (arith, entries N (k + 1) entering)
@@ -138,17 +138,17 @@ module _ {N : ℕ} (pieces : List (Piece N)) (room : List ℕ) where
         let at : s ≡ get_or states n s = sym (subst (λ (i : ℕ). get_or states i s ≡ s) index node.1.2) in
         let low : 1 ≤ s.piece = reached-low pieces room s ((are.reached s).0 (n, lt, sym at)) in
         let take_step : (t : State N) → taken_here s ≡ Some t → Step pieces room s (Carries s.piece) t = λ t gives.
-            ⊎_elim
-                (λ inside.
-                    let piece = piece_there pieces (s.piece - 1) inside in
-                    take-is_step pieces room states are n lt s at piece.0 (omega arith) piece.1 t (sym (taken_here-at s piece.0 inside piece.1) ∙ gives))
-                (λ outside. absurd (let bad : None ≡ Some t = sym (taken_here-past s outside) ∙ gives in cc))
-                (cases_lt (s.piece - 1) (length pieces)) in
+        ⊎_elim
+        (λ inside.
+        let piece = piece_there pieces (s.piece - 1) inside in
+        take-is_step pieces room states are n lt s at piece.0 (omega arith) piece.1 t (sym (taken_here-at s piece.0 inside piece.1) ∙ gives))
+        (λ outside. absurd (let bad : None ≡ Some t = sym (taken_here-past s outside) ∙ gives in cc))
+        (cases_lt (s.piece - 1) (length pieces)) in
         let step_take : (t : State N) → Step pieces room s (Carries s.piece) t → taken_here s ≡ Some t = λ t step.
-            let high = step.1 in
-            let inside : s.piece - 1 < length pieces = omega arith in
-            let piece = piece_there pieces (s.piece - 1) inside in
-            taken_here-at s piece.0 inside piece.1 ∙ step-is_take pieces room states are n lt s at piece.0 high piece.1 t step in
+        let high = step.1 in
+        let inside : s.piece - 1 < length pieces = omega arith in
+        let piece = piece_there pieces (s.piece - 1) inside in
+        taken_here-at s piece.0 inside piece.1 ∙ step-is_take pieces room states are n lt s at piece.0 high piece.1 t step in
         let mid = one_more n lt s at take_mark (taken_here s) take_step step_take old.0 in
         let new = one_more n lt s at skip_mark (skipped pieces room s) (skip-step pieces room s) (step-skip pieces room s) mid.0 in
         let one : n + 1 ≡ suc n = omega arith in
@@ -171,10 +171,10 @@ module _ {N : ℕ} (pieces : List (Piece N)) (room : List ℕ) where
   pub counted-more : (k nodes count : ℕ) (piece : Piece N) (entering weights : List (List ℕ)) (layer : List (State N)) → k < length pieces → piece ≡ get_or pieces k piece → Counted k nodes count entering → IsLayer (k + 1) piece room entering layer → AreWeights layer weights → Counted (k + 1) (nodes + length layer) (count + (length layer - length entering)) weights
   counted-more k nodes count piece entering weights layer lt at old is kept =
       record {
-          list = old.list ++ layer;
-          so_far = so_far-more pieces room k piece old.list layer entering weights lt (sym at) old.so_far is kept;
-          nodes_are = omega (arith, old.nodes_are, length-append old.list layer);
-          takes_are = omega (arith, old.takes_are, takes-append old.list layer, takes-layer k piece entering layer lt at is)
+        list = old.list ++ layer;
+        so_far = so_far-more pieces room k piece old.list layer entering weights lt (sym at) old.so_far is kept;
+        nodes_are = omega (arith, old.nodes_are, length-append old.list layer);
+        takes_are = omega (arith, old.takes_are, takes-append old.list layer, takes-layer k piece entering layer lt at is);
       }
 
   pub counted-end : (nodes count : ℕ) (entering : List (List ℕ)) → Counted (length pieces) nodes count entering → IsLevelCount pieces room (nodes + 1) (nodes + count)
@@ -187,9 +187,9 @@ module _ {N : ℕ} (pieces : List (Piece N)) (room : List ℕ) where
       let arcs_count : length made.0 ≡ takes states + skips states = subst (λ (ss : List (State N)). length made.0 ≡ takes ss + skips ss) whole made.2 in
       let all : skips old.list ≡ length old.list = skips-all old.list (λ s m. ((old.so_far.exact s).0 m).1) in
       record {
-          state_list = states;
-          arc_list = made.0;
-          levels = arcs-all pieces room states (length states) made.0 are (omega arith) made.1;
-          nodes_are = omega (arith, old.nodes_are, length-append old.list (end ∷ []));
-          arcs_are = omega (arith, old.nodes_are, old.takes_are, arcs_count, all, no_takes, no_skips, takes-append old.list (end ∷ []), skips-append old.list (end ∷ []))
+        state_list = states;
+        arc_list = made.0;
+        levels = arcs-all pieces room states (length states) made.0 are (omega arith) made.1;
+        nodes_are = omega (arith, old.nodes_are, length-append old.list (end ∷ []));
+        arcs_are = omega (arith, old.nodes_are, old.takes_are, arcs_count, all, no_takes, no_skips, takes-append old.list (end ∷ []), skips-append old.list (end ∷ []));
       }

@@ -1,14 +1,12 @@
 -- Steps with given marks, and the paths that they are.
-use Rattle.std.proofs.Common.{◌≡◌, ℕ, zero, suc, ◌+◌, ◌-◌, ◌<◌, ◌≤◌, ◌⊎◌, List, [], ◌∷◌, length, get_or, refl, sym, ap, ◌∙◌, subst, inl, inr, ⊎_elim, arith}
-use Rattle.std.specs.Prelude.{Contains, AllPairs}
+use Rattle.std.proofs.Common.{◌≡◌, ℕ, ◌+◌, List, [], ◌∷◌, length, refl, sym, ap, ◌∙◌, subst, ⊎_elim, arith}
 use Rattle.std.proofs.lemmas.Bool.{cases_order}
 use Rattle.label_graph.specs.declared.parts.GraphArc.{GraphArc}
 use Rattle.label_graph.specs.declared.parts.Piece.{Piece}
 use Rattle.label_graph.specs.declared.parts.Mark.{Mark}
-use Rattle.label_graph.specs.declared.parts.Mark.TheVariants.{Loss, Piece as Carries}
 use Rattle.label_graph.specs.Graph.{IsPath, mark_copies, copies_along}
 use Rattle.level_graph.specs.declared.states.State.{State}
-use Rattle.level_graph.specs.Levels.{StateBefore, Step, IsReached, IsNode, IsStepArc, IsLevels, source, target}
+use Rattle.level_graph.specs.Levels.{Step, IsNode, IsLevels, source, target}
 use Rattle.level_graph.proofs.Reached.{next_reached, source_reached, target_reached}
 use Rattle.level_graph.proofs.Arcs.{node-same, node-one, nodes-before, step-one}
 use Rattle.level_graph.proofs.GraphOf.{node-reached, node-of, state-of, step-arc, has_source, source-first, target-last}
@@ -76,12 +74,12 @@ module _ {N : ℕ} (pieces : List (Piece N)) (room : List ℕ) (states : List (S
       let node = node-of pieces room states arcs are (source N) (source_reached pieces room) in
       let first = state-of pieces room states arcs are 1 (omega arith) (has_source pieces room states arcs are) in
       ⊎_elim
-          (λ same. subst (λ (v : ℕ). IsNode states v (source N)) same node.1)
-          (λ apart. ⊎_elim
-              (λ lt. absurd (omega (arith, node.1.0)))
-              (λ gt. absurd (source-first pieces room first.0 (node-reached pieces room states arcs are 1 first.0 first.1) (nodes-before states are.states_ordered 1 node.0 first.0 (source N) first.1 node.1 gt)))
-              apart)
-          (cases_order node.0 1)
+      (λ same. subst (λ (v : ℕ). IsNode states v (source N)) same node.1)
+      (λ apart. ⊎_elim
+      (λ lt. absurd (omega (arith, node.1.0)))
+      (λ gt. absurd (source-first pieces room first.0 (node-reached pieces room states arcs are 1 first.0 first.1) (nodes-before states are.states_ordered 1 node.0 first.0 (source N) first.1 node.1 gt)))
+      apart)
+      (cases_order node.0 1)
 
   pub target-node : IsNode states (length states) (target pieces room)
   target-node =
@@ -89,9 +87,9 @@ module _ {N : ℕ} (pieces : List (Piece N)) (room : List ℕ) (states : List (S
       let node = node-of pieces room states arcs are (target pieces room) (target_reached pieces room) in
       let last = state-of pieces room states arcs are (length states) some (omega arith) in
       ⊎_elim
-          (λ same. subst (λ (v : ℕ). IsNode states v (target pieces room)) same node.1)
-          (λ apart. ⊎_elim
-              (λ lt. absurd (target-last pieces room last.0 (node-reached pieces room states arcs are (length states) last.0 last.1) (nodes-before states are.states_ordered node.0 (length states) (target pieces room) last.0 node.1 last.1 lt)))
-              (λ gt. absurd (omega (arith, node.1.1)))
-              apart)
-          (cases_order node.0 (length states))
+      (λ same. subst (λ (v : ℕ). IsNode states v (target pieces room)) same node.1)
+      (λ apart. ⊎_elim
+      (λ lt. absurd (target-last pieces room last.0 (node-reached pieces room states arcs are (length states) last.0 last.1) (nodes-before states are.states_ordered node.0 (length states) (target pieces room) last.0 node.1 last.1 lt)))
+      (λ gt. absurd (omega (arith, node.1.1)))
+      apart)
+      (cases_order node.0 (length states))

@@ -1,5 +1,5 @@
 -- There is but one level graph: lists in order with the same members are equal.
-use Rattle.std.proofs.Common.{◌≡◌, ℕ, zero, suc, ◌+◌, ◌<◌, ◌≤◌, ◌⊎◌, List, [], ◌∷◌, length, get_or, refl, sym, ap, ◌∙◌, subst, inl, inr, ⊎_elim, arith}
+use Rattle.std.proofs.Common.{◌≡◌, ℕ, suc, ◌<◌, List, [], ◌∷◌, length, get_or, refl, sym, ◌∙◌, subst, ⊎_elim, arith}
 use Rattle.std.specs.Prelude.{Contains, AllPairs}
 use Rattle.label_graph.specs.declared.parts.GraphArc.{GraphArc}
 use Rattle.label_graph.specs.declared.parts.Piece.{Piece}
@@ -28,20 +28,20 @@ module _ {X : Type 0} (R : X → X → Type 0) (asymmetric : (x y : X) → R x y
   one_list (x ∷ xs) [] up down there back = absurd (contains_nothing x (there x (contains_here x xs)))
   one_list (x ∷ xs) (y ∷ ys) up down there back =
       let same : x ≡ y =
-          ⊎_elim
-              (λ e. sym e)
-              (λ late. ⊎_elim (λ e. e) (λ after. absurd (asymmetric x y (first_before x xs y up after) (first_before y ys x down late))) (contains_cons x xs y (back y (contains_here y ys))))
-              (contains_cons y ys x (there x (contains_here x xs))) in
+      ⊎_elim
+      (λ e. sym e)
+      (λ late. ⊎_elim (λ e. e) (λ after. absurd (asymmetric x y (first_before x xs y up after) (first_before y ys x down late))) (contains_cons x xs y (back y (contains_here y ys))))
+      (contains_cons y ys x (there x (contains_here x xs))) in
       let onward : (z : X) → Contains xs z → Contains ys z = λ z m.
-          ⊎_elim
-              (λ e. absurd (let itself : R x x = subst (λ (w : X). R x w) (sym (same ∙ e)) (first_before x xs z up m) in asymmetric x x itself itself))
-              (λ late. late)
-              (contains_cons y ys z (there z (contains_there x xs z m))) in
+      ⊎_elim
+      (λ e. absurd (let itself : R x x = subst (λ (w : X). R x w) (sym (same ∙ e)) (first_before x xs z up m) in asymmetric x x itself itself))
+      (λ late. late)
+      (contains_cons y ys z (there z (contains_there x xs z m))) in
       let backward : (z : X) → Contains ys z → Contains xs z = λ z m.
-          ⊎_elim
-              (λ e. absurd (let itself : R y y = subst (λ (w : X). R y w) (sym (sym same ∙ e)) (first_before y ys z down m) in asymmetric y y itself itself))
-              (λ late. late)
-              (contains_cons x xs z (back z (contains_there y ys z m))) in
+      ⊎_elim
+      (λ e. absurd (let itself : R y y = subst (λ (w : X). R y w) (sym (sym same ∙ e)) (first_before y ys z down m) in asymmetric y y itself itself))
+      (λ late. late)
+      (contains_cons x xs z (back z (contains_there y ys z m))) in
       let rest = one_list xs ys (rest_up x xs up) (rest_up y ys down) onward backward in
       λ i. same i ∷ rest i
 
@@ -54,20 +54,21 @@ mark_asymmetric (Carries p) (Carries q) h k = omega arith
 arc_asymmetric : (e f : GraphArc) → ArcBefore e f → ArcBefore f e → ⊥
 arc_asymmetric e f h k =
     ⊎_elim
-        (λ lt. ⊎_elim (λ gt. omega arith) (λ w. omega (arith, w.0)) k)
-        (λ v. ⊎_elim
-            (λ gt. omega (arith, v.0))
-            (λ w. ⊎_elim
-                (λ lt. ⊎_elim (λ gt. omega arith) (λ z. omega (arith, z.0)) w.1)
-                (λ y. ⊎_elim (λ gt. omega (arith, y.0)) (λ z. mark_asymmetric e.mark f.mark y.1 z.1) w.1)
-                v.1)
-            k)
-        h
+    (λ lt. ⊎_elim (λ gt. omega arith) (λ w. omega (arith, w.0)) k)
+    (λ v. ⊎_elim
+    (λ gt. omega (arith, v.0))
+    (λ w. ⊎_elim
+    (λ lt. ⊎_elim (λ gt. omega arith) (λ z. omega (arith, z.0)) w.1)
+    (λ y. ⊎_elim (λ gt. omega (arith, y.0)) (λ z. mark_asymmetric e.mark f.mark y.1 z.1) w.1)
+    v.1)
+    k)
+    h
 
 pub one_level_graph : (N : ℕ) (pieces : List (Piece N)) (room : List ℕ) (states others : List (State N)) (arcs more : List GraphArc) → IsLevels pieces room states arcs → IsLevels pieces room others more → (states ≡ others) × (arcs ≡ more)
 one_level_graph N pieces room states others arcs more one two =
-    let same : states ≡ others = one_list StateBefore (λ s t h k. never_before_itself s (state_total.trans s t s h k)) states others one.states_ordered two.states_ordered (λ s m. (two.states_reached s).1 ((one.states_reached s).0 m)) (λ s m. (one.states_reached s).1 ((two.states_reached s).0 m)) in
-    (same,
-     one_list ArcBefore arc_asymmetric arcs more one.arcs_ordered two.arcs_ordered
-        (λ e m. (two.arcs_step e).1 (subst (λ (ss : List (State N)). IsStepArc pieces room ss e) same ((one.arcs_step e).0 m)))
-        (λ e m. (one.arcs_step e).1 (subst (λ (ss : List (State N)). IsStepArc pieces room ss e) (sym same) ((two.arcs_step e).0 m))))
+    let same : states ≡ others = one_list StateBefore (λ s t h k. never_before_itself s (state_total.trans s t s h k)) states others one.states_ordered two.states_ordered (λ s m. (two.states_reached s).1 ((one.states_reached s).0 m)) (λ s m. (one.states_reached s).1 ((two.states_reached s).0 m)) in (
+      same,
+      one_list ArcBefore arc_asymmetric arcs more one.arcs_ordered two.arcs_ordered
+          (λ e m. (two.arcs_step e).1 (subst (λ (ss : List (State N)). IsStepArc pieces room ss e) same ((one.arcs_step e).0 m)))
+          (λ e m. (one.arcs_step e).1 (subst (λ (ss : List (State N)). IsStepArc pieces room ss e) (sym same) ((two.arcs_step e).0 m))),
+    )

@@ -12,7 +12,11 @@ use weight_vec::Weights;
 
 /// The level graph of the pieces: its nodes are the states that takes and skips reach, each labelled with its weight
 /// and the target with the capacity, and its arcs are the takes and skips.
-pub fn levels<const N: usize>(alloc: Global, pieces: &[Piece<N>], cap: &Weights<N>) -> Result<Graph<N>, Memory>
+pub fn levels<const N: usize>(
+    alloc: Global,
+    pieces: &[Piece<N>],
+    cap: &Weights<N>,
+) -> Result<Graph<N>, Memory>
     requires small { N ≤ 32 }
     requires pieces { IsPieceList pieces.now cap.now }
     ensures { IfOk result (λ graph. IsLevelGraph pieces.now cap.now graph) }
@@ -49,7 +53,11 @@ fn known_pieces<const N: usize>(pieces: &[Piece<N>])
 }
 
 // All states, in order, the target last.
-fn states_of<const N: usize>(alloc: Global, pieces: &[Piece<N>], cap: &Weights<N>) -> Result<Vec<State<N>>, Memory>
+fn states_of<const N: usize>(
+    alloc: Global,
+    pieces: &[Piece<N>],
+    cap: &Weights<N>,
+) -> Result<Vec<State<N>>, Memory>
     requires small { N ≤ 32 }
     requires pieces { IsPieceList pieces.now cap.now }
     ensures { IfOk result (λ states. AreStates pieces.now cap.now states.items) }
@@ -88,7 +96,12 @@ fn target_of<const N: usize>(pieces: &[Piece<N>], cap: &Weights<N>) -> State<N>
 }
 
 // The arcs between the states, in order.
-fn arcs_of<const N: usize>(alloc: Global, pieces: &[Piece<N>], cap: &Weights<N>, states: &[State<N>]) -> Result<Vec<GraphArc>, Memory>
+fn arcs_of<const N: usize>(
+    alloc: Global,
+    pieces: &[Piece<N>],
+    cap: &Weights<N>,
+    states: &[State<N>],
+) -> Result<Vec<GraphArc>, Memory>
     requires small { N ≤ 32 }
     requires few { length pieces.now ≤ 8000 }
     requires states { AreStates pieces.now cap.now states.now }
@@ -116,7 +129,13 @@ fn node_of<const N: usize>(states: &[State<N>], wanted: &State<N>) -> u64
 }
 
 // Appends the arc of a take from the state at this index, if there is one.
-fn push_take<const N: usize>(arcs: &mut Vec<GraphArc>, pieces: &[Piece<N>], cap: &Weights<N>, states: &[State<N>], index: usize) -> Result<(), Memory>
+fn push_take<const N: usize>(
+    arcs: &mut Vec<GraphArc>,
+    pieces: &[Piece<N>],
+    cap: &Weights<N>,
+    states: &[State<N>],
+    index: usize,
+) -> Result<(), Memory>
     requires small { N ≤ 32 }
     requires states { AreStates pieces.now cap.now states.now }
     requires index { index < length states.now }
@@ -138,7 +157,13 @@ fn push_take<const N: usize>(arcs: &mut Vec<GraphArc>, pieces: &[Piece<N>], cap:
 }
 
 // Appends the arc of a skip from the state at this index, if there is one.
-fn push_skip<const N: usize>(arcs: &mut Vec<GraphArc>, pieces: &[Piece<N>], cap: &Weights<N>, states: &[State<N>], index: usize) -> Result<(), Memory>
+fn push_skip<const N: usize>(
+    arcs: &mut Vec<GraphArc>,
+    pieces: &[Piece<N>],
+    cap: &Weights<N>,
+    states: &[State<N>],
+    index: usize,
+) -> Result<(), Memory>
     requires small { N ≤ 32 }
     requires few { length pieces.now ≤ 8000 }
     requires states { AreStates pieces.now cap.now states.now }

@@ -1,16 +1,16 @@
-use Rattle.std.proofs.Common.{◌≡◌, ℕ, ◌+◌, ◌-◌, ◌≤◌, List, length, vec_len, refl, sym, ap, ◌∙◌, subst, arith, rules}
+use Rattle.std.proofs.Common.{◌≡◌, ℕ, ◌+◌, List, length, refl, subst, arith}
 use Rattle.level_graph.specs.declared.states.State.{State}
 use Rattle.level_graph.specs.Layers.{IsLayer, AreWeights}
-use Rattle.level_graph.proofs.Counting.{Counted, counted-start, counted-more, counted-end, takes-layer}
+use Rattle.level_graph.proofs.Counting.{Counted, counted-start, counted-more, counted-end}
 use Rattle.level_graph.proofs.counts.level_counts.Goals as goal
 
 pub loop-piece-init : goal.loop-piece-init
 loop-piece-init g c =
     record {
-        number = refl;
-        few_states = omega arith;
-        few_takes = omega arith;
-        counted = rw c.in_ok-entering.ensures.items (counted-start c.args.pieces.now c.args.cap.now c.zero.result c.zero.ensures)
+      number = refl;
+      few_states = omega arith;
+      few_takes = omega arith;
+      counted = rw c.in_ok-entering.ensures.items (counted-start c.args.pieces.now c.args.cap.now c.zero.result c.zero.ensures);
     }
 
 pub loop-piece-preserved : goal.loop-piece-preserved
@@ -26,10 +26,10 @@ loop-piece-preserved g c =
     let again : c.len-in-loop-piece.result ≡ length layer = omega arith in
     let second : c.len-in-loop-piece-2.result ≡ length entering = omega arith in
     record {
-        number = omega (arith, c.loop-piece.invariant.number);
-        few_states = omega (arith, c.loop-piece.invariant.few_states);
-        few_takes = omega (arith, c.loop-piece.invariant.few_takes);
-        counted = rw (first, again, second) (counted-more c.args.pieces.now c.args.cap.now k c.loop-piece.states c.loop-piece.takes piece entering c.in_ok-entering-2.entering.items layer c.loop-piece-test.true c.piece-item.is c.loop-piece.invariant.counted is kept)
+      number = omega (arith, c.loop-piece.invariant.number);
+      few_states = omega (arith, c.loop-piece.invariant.few_states);
+      few_takes = omega (arith, c.loop-piece.invariant.few_takes);
+      counted = rw (first, again, second) (counted-more c.args.pieces.now c.args.cap.now k c.loop-piece.states c.loop-piece.takes piece entering c.in_ok-entering-2.entering.items layer c.loop-piece-test.true c.piece-item.is c.loop-piece.invariant.counted is kept);
     }
 
 pub returns : goal.returns

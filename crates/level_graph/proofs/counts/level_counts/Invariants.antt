@@ -7,5 +7,5 @@ invariant-loop-piece g l = record {
   number : l.number ≡ l.piece-index;
   few_states : l.states ≤ l.piece-index * 2 ^ 64;
   few_takes : l.takes ≤ l.piece-index * 2 ^ 64;
-  counted : Counted l.pieces l.cap l.piece-index l.states l.takes l.entering.items
+  counted : Counted l.pieces l.cap l.piece-index l.states l.takes l.entering.items;
 }
