@@ -5,7 +5,7 @@ ghost use Rattle.level_graph.specs.Layers.{AreStates, AppendsStep, take_mark, sk
 
 use crate::layers::{layer_of, take, used_weights, weights_of};
 use crate::states::State;
-use arc_num::Memory;
+use arc_num::{MAX_ALL_FORMS, Memory};
 use label_graph::{Graph, GraphArc, Mark, Piece};
 use std::alloc::Global;
 use weight_vec::Weights;
@@ -78,7 +78,7 @@ fn states_of<const N: usize>(
 // The state past the last piece.
 fn target_of<const N: usize>(pieces: &[Piece<N>], cap: &Weights<N>) -> State<N>
     requires small { N ≤ 32 }
-    requires few { length pieces.now ≤ 8000 }
+    requires few { length pieces.now ≤ MAX_ALL_FORMS }
     ensures { result ≡ target pieces.now cap.now }
 {
     if pieces.is_empty() {
@@ -103,7 +103,7 @@ fn arcs_of<const N: usize>(
     states: &[State<N>],
 ) -> Result<Vec<GraphArc>, Memory>
     requires small { N ≤ 32 }
-    requires few { length pieces.now ≤ 8000 }
+    requires few { length pieces.now ≤ MAX_ALL_FORMS }
     requires states { AreStates pieces.now cap.now states.now }
     ensures { IfOk result (λ arcs. IsLevels pieces.now cap.now states.now arcs.items) }
 {
@@ -165,7 +165,7 @@ fn push_skip<const N: usize>(
     index: usize,
 ) -> Result<(), Memory>
     requires small { N ≤ 32 }
-    requires few { length pieces.now ≤ 8000 }
+    requires few { length pieces.now ≤ MAX_ALL_FORMS }
     requires states { AreStates pieces.now cap.now states.now }
     requires index { index < length states.now }
     ensures { OnOk result (AppendsStep pieces.now cap.now states.now index skip_mark arcs.old.items arcs.new.items) }
@@ -183,7 +183,7 @@ fn push_skip<const N: usize>(
 // The state at the next piece or past the last one, if there is one.
 fn skip<const N: usize>(state: &State<N>, pieces: &[Piece<N>], cap: &Weights<N>) -> Option<State<N>>
     requires small { N ≤ 32 }
-    requires few { length pieces.now ≤ 8000 }
+    requires few { length pieces.now ≤ MAX_ALL_FORMS }
     ensures { result ≡ skipped pieces.now cap.now state.now }
 {
     let number = state.piece as usize;
