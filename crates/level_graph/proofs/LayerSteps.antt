@@ -1,12 +1,12 @@
 -- How the states at a piece grow: each state in turn is followed by what one more copy makes of it.
-use Rattle.std.proofs.Common.{◌≡◌, ℕ, zero, suc, ◌+◌, ◌<◌, ◌≤◌, ◌⊎◌, List, [], ◌∷◌, ◌++◌, length, get_or, take, map, refl, sym, ap, ◌∙◌, subst, inl, inr, ⊎_elim, Option, Some, None, arith, append_assoc, append-nil}
+use Rattle.std.proofs.Common.{◌≡◌, ℕ, suc, ◌+◌, ◌<◌, List, [], ◌∷◌, ◌++◌, length, get_or, take, refl, sym, ap, ◌∙◌, subst, ⊎_elim, Option, Some, None, arith, append_assoc, append-nil}
 use Rattle.std.specs.Prelude.{Contains, All, AllPairs}
 use Rattle.std.specs.List.{filter_map, cons_option}
-use Rattle.std.proofs.lemmas.List.{take_more, take-append-le, get_or_default, get_or-map, length-append}
+use Rattle.std.proofs.lemmas.List.{take_more, take-append-le, get_or_default, get_or-map}
 use Rattle.std.proofs.Math.Seq.{take-length}
 use Rattle.std.proofs.lemmas.List.Elements.{All-push, Contains-get_or, Contains-append_cases, filter_map-append}
 use Rattle.std.proofs.lemmas.List.Quantifiers.{all_pairs_push}
-use Rattle.weight_vec.specs.Weight.{Before, plus}
+use Rattle.weight_vec.specs.Weight.{Before}
 use Rattle.weight_vec.proofs.Places.{length-plus}
 use Rattle.label_graph.specs.declared.parts.Piece.{Piece}
 use Rattle.level_graph.specs.declared.states.State.{State}
@@ -36,7 +36,7 @@ module _ {N : ℕ} (number : ℕ) where
       let low : i < length entering = omega (arith, entries N number entering) in
       let high : j < length entering = omega (arith, entries N number entering) in
       rw (get_or-map entry entering i [] d low, get_or-map entry entering j [] d high)
-          (before-used (entry (get_or entering i [])) (entry (get_or entering j [])) refl refl (up i j [] lt high))
+      (before-used (entry (get_or entering i [])) (entry (get_or entering j [])) refl refl (up i j [] lt high))
 
 module _ {N : ℕ} (number : ℕ) (piece : Piece N) (room : List ℕ) (entering : List (List ℕ)) (weight_sized : length piece.weight ≡ N) where
   -- the rest of the list of followers
@@ -49,10 +49,10 @@ module _ {N : ℕ} (number : ℕ) (piece : Piece N) (room : List ℕ) (entering 
   pub growing_stay : (layer : List (State N)) (i : ℕ) (s : State N) → Growing number piece room entering layer i → i < length layer → s ≡ get_or layer i s → taken piece room s ≡ None → Growing number piece room entering layer (i + 1)
   growing_stay layer i s old lt at stops =
       record {
-          ordered = old.ordered;
-          sized = old.sized;
-          here = old.here;
-          whole = rw (followers layer i s lt at, stops, append-nil) old.whole
+        ordered = old.ordered;
+        sized = old.sized;
+        here = old.here;
+        whole = rw (followers layer i s lt at, stops, append-nil) old.whole;
       }
 
   -- each state that is there comes before what follows the next one
@@ -67,19 +67,19 @@ module _ {N : ℕ} (number : ℕ) (piece : Piece N) (room : List ℕ) (entering 
       let v_here : v.piece ≡ number = old.here k d in_range in
       let member : Contains (entered number entering ++ filter_map (taken piece room) (take i layer)) v = subst (λ (zs : List (State N)). Contains zs v) old.whole (Contains-get_or layer k d in_range) in
       ⊎_elim
-          (λ m. let from = from_map (entry number) entering v m in
-              let none : 0 ≡ v.copies = ap (λ (z : State N). z.copies) from.2 in
-              before-copies v next (v_here ∙ sym next_here) (omega arith))
-          (λ m. let from = from_filter_map (taken piece room) (take i layer) v m in
-              let r : State N = from.0 in
-              let place = contains_take i layer r from.1 in
-              let r_here : r.piece ≡ number = subst (λ (z : State N). z.piece ≡ number) place.3 (old.here place.0 r place.2) in
-              let r_sized : length r.used ≡ N = subst (λ (z : State N). length z.used ≡ N) place.3 (old.sized place.0 r place.2) in
-              let up : StateBefore (get_or layer place.0 r) (get_or layer i r) = old.ordered place.0 i r place.1 lt in
-              let up_s : StateBefore r (get_or layer i r) = subst (λ (z : State N). StateBefore z (get_or layer i r)) place.3 up in
-              let before : StateBefore r s = subst (λ (z : State N). StateBefore r z) (get_or_default layer i r s lt ∙ sym at) up_s in
-              taken-keeps_order piece room r s v next (r_here ∙ sym s_here) r_sized s_sized weight_sized from.2 gives before)
-          (Contains-append_cases (entered number entering) (filter_map (taken piece room) (take i layer)) v member)
+      (λ m. let from = from_map (entry number) entering v m in
+      let none : 0 ≡ v.copies = ap (λ (z : State N). z.copies) from.2 in
+      before-copies v next (v_here ∙ sym next_here) (omega arith))
+      (λ m. let from = from_filter_map (taken piece room) (take i layer) v m in
+      let r : State N = from.0 in
+      let place = contains_take i layer r from.1 in
+      let r_here : r.piece ≡ number = subst (λ (z : State N). z.piece ≡ number) place.3 (old.here place.0 r place.2) in
+      let r_sized : length r.used ≡ N = subst (λ (z : State N). length z.used ≡ N) place.3 (old.sized place.0 r place.2) in
+      let up : StateBefore (get_or layer place.0 r) (get_or layer i r) = old.ordered place.0 i r place.1 lt in
+      let up_s : StateBefore r (get_or layer i r) = subst (λ (z : State N). StateBefore z (get_or layer i r)) place.3 up in
+      let before : StateBefore r s = subst (λ (z : State N). StateBefore r z) (get_or_default layer i r s lt ∙ sym at) up_s in
+      taken-keeps_order piece room r s v next (r_here ∙ sym s_here) r_sized s_sized weight_sized from.2 gives before)
+      (Contains-append_cases (entered number entering) (filter_map (taken piece room) (take i layer)) v member)
 
   pub growing_push : (layer : List (State N)) (i : ℕ) (s next : State N) → Growing number piece room entering layer i → i < length layer → s ≡ get_or layer i s → taken piece room s ≡ Some next → Growing number piece room entering (layer ++ next ∷ []) (i + 1)
   growing_push layer i s next old lt at gives =
@@ -90,23 +90,23 @@ module _ {N : ℕ} (number : ℕ) (piece : Piece N) (room : List ℕ) (entering 
       let next_sized : length next.used ≡ N = ap (λ (z : State N). length z.used) next_is.2 ∙ length-plus s.used piece.weight (s_sized ∙ sym weight_sized) ∙ s_sized in
       let same : take (i + 1) (layer ++ next ∷ []) ≡ take (i + 1) layer = take-append-le (i + 1) layer (next ∷ []) (omega arith) in
       record {
-          ordered = all_pairs_push StateBefore layer next old.ordered (comes_before layer i s next old lt at gives);
-          sized = All-push (λ (s : State N). length s.used ≡ N) layer next old.sized next_sized;
-          here = All-push (λ (s : State N). s.piece ≡ number) layer next old.here next_here;
-          whole =
-              ap (λ (zs : List (State N)). zs ++ next ∷ []) old.whole
-              ∙ append_assoc (entered number entering) (filter_map (taken piece room) (take i layer)) (next ∷ [])
-              ∙ ap (λ (o : Option (State N)). entered number entering ++ (filter_map (taken piece room) (take i layer) ++ cons_option o [])) (sym gives)
-              ∙ ap (λ (zs : List (State N)). entered number entering ++ zs) (sym (followers layer i s lt at))
-              ∙ ap (λ (zs : List (State N)). entered number entering ++ filter_map (taken piece room) zs) (sym same)
+        ordered = all_pairs_push StateBefore layer next old.ordered (comes_before layer i s next old lt at gives);
+        sized = All-push (λ (s : State N). length s.used ≡ N) layer next old.sized next_sized;
+        here = All-push (λ (s : State N). s.piece ≡ number) layer next old.here next_here;
+        whole =
+            ap (λ (zs : List (State N)). zs ++ next ∷ []) old.whole
+            ∙ append_assoc (entered number entering) (filter_map (taken piece room) (take i layer)) (next ∷ [])
+            ∙ ap (λ (o : Option (State N)). entered number entering ++ (filter_map (taken piece room) (take i layer) ++ cons_option o [])) (sym gives)
+            ∙ ap (λ (zs : List (State N)). entered number entering ++ zs) (sym (followers layer i s lt at))
+            ∙ ap (λ (zs : List (State N)). entered number entering ++ filter_map (taken piece room) zs) (sym same);
       }
 
   -- in the end the list holds what follows each of its own states
   pub growing_done : (layer : List (State N)) (i : ℕ) → i ≡ length layer → Growing number piece room entering layer i → IsLayer number piece room entering layer
   growing_done layer i all g =
       record {
-          ordered = g.ordered;
-          sized = g.sized;
-          here = g.here;
-          whole = g.whole ∙ ap (λ (zs : List (State N)). entered number entering ++ filter_map (taken piece room) zs) (ap (λ (n : ℕ). take n layer) all ∙ take-length layer)
+        ordered = g.ordered;
+        sized = g.sized;
+        here = g.here;
+        whole = g.whole ∙ ap (λ (zs : List (State N)). entered number entering ++ filter_map (taken piece room) zs) (ap (λ (n : ℕ). take n layer) all ∙ take-length layer);
       }

@@ -10,3 +10,6 @@ pub mod Search
 pub mod Pushes
 pub mod GraphOf
 pub mod Counting
+pub mod Uniqueness
+pub mod Leading
+pub mod Choices

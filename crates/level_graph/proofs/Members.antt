@@ -1,7 +1,7 @@
 -- Members of lists, and of what a function gives of them.
-use Rattle.std.proofs.Common.{◌≡◌, ℕ, zero, suc, ◌+◌, ◌-◌, ◌<◌, ◌≤◌, ◌⊎◌, List, [], ◌∷◌, ◌++◌, length, get_or, take, map, refl, sym, ap, ◌∙◌, subst, inl, inr, ⊎_elim, Option, Some, None, min, arith}
+use Rattle.std.proofs.Common.{◌≡◌, ℕ, zero, suc, ◌<◌, ◌⊎◌, List, [], ◌∷◌, length, get_or, take, map, refl, sym, ap, ◌∙◌, subst, inl, inr, ⊎_elim, Option, Some, None, min, arith}
 use Rattle.std.proofs.lemmas.List.{length-take, get_or-take}
-use Rattle.std.specs.Prelude.{Contains, All, AllPairs}
+use Rattle.std.specs.Prelude.{Contains}
 use Rattle.std.specs.List.{filter_map, cons_option}
 
 module _ {X : Type 0} where
@@ -46,31 +46,31 @@ module _ {X Y : Type 0} (h : X → Option Y) where
   contains_filter_map [] x y m e = absurd (contains_nothing x m)
   contains_filter_map (z ∷ xs) x y m e =
       ⊎_elim
-          (λ same. let f : h z ≡ Some y = ap h same ∙ e in rw f (contains_here y (filter_map h xs)))
-          (λ later. contains_cons_option (h z) (filter_map h xs) y (contains_filter_map xs x y later e))
-          (contains_cons z xs x m)
+      (λ same. let f : h z ≡ Some y = ap h same ∙ e in rw f (contains_here y (filter_map h xs)))
+      (λ later. contains_cons_option (h z) (filter_map h xs) y (contains_filter_map xs x y later e))
+      (contains_cons z xs x m)
 
   pub from_filter_map : (xs : List X) (y : Y) → Contains (filter_map h xs) y → (x : X) × Contains xs x × (h x ≡ Some y)
   from_filter_map [] y m = absurd (contains_nothing y m)
   from_filter_map (z ∷ xs) y m =
       ⊎_elim
-          (λ same. (z, contains_here z xs, same))
-          (λ later. let rest = from_filter_map xs y later in (rest.0, contains_there z xs rest.0 rest.1, rest.2))
-          (from_cons_option (h z) (filter_map h xs) y m)
+      (λ same. (z, contains_here z xs, same))
+      (λ later. let rest = from_filter_map xs y later in (rest.0, contains_there z xs rest.0 rest.1, rest.2))
+      (from_cons_option (h z) (filter_map h xs) y m)
 
 module _ {X Y : Type 0} (f : X → Y) where
   pub contains_map : (xs : List X) (x : X) → Contains xs x → Contains (map f xs) (f x)
   contains_map [] x m = absurd (contains_nothing x m)
   contains_map (z ∷ xs) x m =
       ⊎_elim
-          (λ same. subst (λ (y : X). Contains (map f (z ∷ xs)) (f y)) same (contains_here (f z) (map f xs)))
-          (λ later. contains_there (f z) (map f xs) (f x) (contains_map xs x later))
-          (contains_cons z xs x m)
+      (λ same. subst (λ (y : X). Contains (map f (z ∷ xs)) (f y)) same (contains_here (f z) (map f xs)))
+      (λ later. contains_there (f z) (map f xs) (f x) (contains_map xs x later))
+      (contains_cons z xs x m)
 
   pub from_map : (xs : List X) (y : Y) → Contains (map f xs) y → (x : X) × Contains xs x × (f x ≡ y)
   from_map [] y m = absurd (contains_nothing y m)
   from_map (z ∷ xs) y m =
       ⊎_elim
-          (λ same. (z, contains_here z xs, same))
-          (λ later. let rest = from_map xs y later in (rest.0, contains_there z xs rest.0 rest.1, rest.2))
-          (contains_cons (f z) (map f xs) y m)
+      (λ same. (z, contains_here z xs, same))
+      (λ later. let rest = from_map xs y later in (rest.0, contains_there z xs rest.0 rest.1, rest.2))
+      (contains_cons (f z) (map f xs) y m)

@@ -1,19 +1,18 @@
 -- Which states are reached, piece by piece.
-use Rattle.std.proofs.Common.{◌≡◌, ℕ, zero, suc, ◌+◌, ◌-◌, ◌<◌, ◌≤◌, ◌⊎◌, ◌↔◌, List, [], ◌∷◌, ◌++◌, length, get_or, take, map, replicate, refl, sym, ap, ◌∙◌, subst, inl, inr, ⊎_elim, Option, Some, None, arith}
-use Rattle.std.specs.Prelude.{Contains, All, AllPairs}
+use Rattle.std.proofs.Common.{◌≡◌, ℕ, zero, suc, ◌+◌, ◌-◌, ◌<◌, ◌≤◌, ◌⊎◌, ◌↔◌, List, [], ◌∷◌, length, get_or, map, replicate, refl, sym, ap, ◌∙◌, subst, inl, inr, ⊎_elim, Some, arith}
+use Rattle.std.specs.Prelude.{Contains}
 use Rattle.std.specs.List.{filter_map}
-use Rattle.std.proofs.lemmas.Bool.{cases_lt, cases_order}
+use Rattle.std.proofs.lemmas.Bool.{cases_lt}
 use Rattle.std.proofs.lemmas.List.{get_or-map}
 use Rattle.std.proofs.lemmas.List.Elements.{Contains-append_left, Contains-append_right, Contains-append_cases, All-contains}
-use Rattle.weight_vec.specs.Weight.{AtMost, Before, plus}
 use Rattle.label_graph.specs.declared.parts.Piece.{Piece}
 use Rattle.label_graph.specs.declared.parts.Mark.{Mark}
 use Rattle.label_graph.specs.declared.parts.Mark.TheVariants.{Loss, Piece as Carries}
 use Rattle.label_graph.specs.Graph.{piece_weight}
 use Rattle.level_graph.specs.declared.states.State.{State}
-use Rattle.level_graph.specs.Levels.{StateBefore, Step, ReachedIn, IsReached, source, target, piece_copies}
-use Rattle.level_graph.specs.Layers.{taken, entered, IsLayer, AreWeights}
-use Rattle.level_graph.proofs.Members.{contains_filter_map, from_filter_map, contains_map, from_map, contains_cons, contains_here, contains_nothing}
+use Rattle.level_graph.specs.Levels.{Step, ReachedIn, IsReached, source, target, piece_copies}
+use Rattle.level_graph.specs.Layers.{taken, entered, IsLayer}
+use Rattle.level_graph.proofs.Members.{contains_filter_map, from_filter_map, contains_map, from_map}
 use Rattle.level_graph.proofs.Takes.{taken-is, taken-some}
 use Rattle.level_graph.proofs.LayerSteps.{entry}
 
@@ -54,11 +53,12 @@ module _ {N : ℕ} (pieces : List (Piece N)) (room : List ℕ) where
   step-low r s (Carries p) low step = let same : s.piece ≡ r.piece = ap (λ (z : State N). z.piece) step.4 in omega arith
   step-low r s Loss low step =
       ⊎_elim
-          (λ w. let same : s.piece ≡ r.piece + 1 = ap (λ (z : State N). z.piece) w.1 in omega arith)
-          (λ w. let same : s.piece ≡ (target pieces room).piece = ap (λ (z : State N). z.piece) w.1 in
-              let some : 1 ≤ length pieces = omega arith in
-              omega (arith, target-piece some))
-          step
+      (λ w. let same : s.piece ≡ r.piece + 1 = ap (λ (z : State N). z.piece) w.1 in omega arith)
+      (λ w. let same : s.piece ≡ (target pieces room).piece = ap (λ (z : State N). z.piece) w.1 in
+      let some : 1 ≤ length pieces = omega arith in
+      omega (arith, target-piece some))
+      step
+
   reached-low_at : (n : ℕ) (s : State N) → ReachedIn pieces room n s → 1 ≤ s.piece
   reached-low_at zero s h = let same : s.piece ≡ 1 = ap (λ (z : State N). z.piece) h in omega arith
   reached-low_at (suc n) s h = step-low h.0 s h.2.0 (reached-low_at n h.0 h.1) h.2.1
@@ -77,17 +77,17 @@ module _ {N : ℕ} (pieces : List (Piece N)) (room : List ℕ) where
   step-end r s (Carries p) step = let same : s.piece ≡ r.piece = ap (λ (z : State N). z.piece) step.4 in inl (omega (arith, step.1))
   step-end r s Loss step =
       ⊎_elim
-          (λ w. let same : s.piece ≡ r.piece + 1 = ap (λ (z : State N). z.piece) w.1 in inl (omega (arith, w.0)))
-          (λ w. inr w.1)
-          step
+      (λ w. let same : s.piece ≡ r.piece + 1 = ap (λ (z : State N). z.piece) w.1 in inl (omega (arith, w.0)))
+      (λ w. inr w.1)
+      step
 
   -- what is reached stands at a piece or is the target
   reached-end_at : (n : ℕ) (s : State N) → ReachedIn pieces room n s → (s.piece ≤ length pieces) ⊎ (s ≡ target pieces room)
   reached-end_at zero s h =
       ⊎_elim
-          (λ some. let same : s.piece ≡ 1 = ap (λ (z : State N). z.piece) h in inl (omega arith))
-          (λ none. inr (h ∙ sym (target-source (omega arith))))
-          (cases_lt 0 (length pieces))
+      (λ some. let same : s.piece ≡ 1 = ap (λ (z : State N). z.piece) h in inl (omega arith))
+      (λ none. inr (h ∙ sym (target-source (omega arith))))
+      (cases_lt 0 (length pieces))
   reached-end_at (suc n) s h = step-end h.0 s h.2.0 h.2.1
 
   pub reached-end : (s : State N) → IsReached pieces room s → (s.piece ≤ length pieces) ⊎ (s ≡ target pieces room)
@@ -103,11 +103,11 @@ module _ {N : ℕ} (pieces : List (Piece N)) (room : List ℕ) where
   pub target_reached : IsReached pieces room (target pieces room)
   target_reached =
       ⊎_elim
-          (λ some.
-              let last : length pieces - 1 + 1 ≡ length pieces = omega arith in
-              next_reached (at_start (length pieces - 1 + 1) (replicate N 0)) (target pieces room) Loss (start_reached (length pieces - 1) (omega arith)) (inr (last, refl)))
-          (λ none. subst (λ (z : State N). IsReached pieces room z) (sym (target-source (omega arith))) source_reached)
-          (cases_lt 0 (length pieces))
+      (λ some.
+      let last : length pieces - 1 + 1 ≡ length pieces = omega arith in
+      next_reached (at_start (length pieces - 1 + 1) (replicate N 0)) (target pieces room) Loss (start_reached (length pieces - 1) (omega arith)) (inr (last, refl)))
+      (λ none. subst (λ (z : State N). IsReached pieces room z) (sym (target-source (omega arith))) source_reached)
+      (cases_lt 0 (length pieces))
 
   enters-zero : (k : ℕ) → k ≡ 0 → Enters k (replicate N 0)
   enters-zero k e = subst (λ (n : ℕ). Enters n (replicate N 0)) (sym e) refl
@@ -150,10 +150,10 @@ module _ {N : ℕ} (pieces : List (Piece N)) (room : List ℕ) (k : ℕ) (piece 
     layer-cases : (s : State N) → Contains layer s → IsReached pieces room s ⊎ ((r : State N) × Contains layer r × (taken piece room r ≡ Some s))
     layer-cases s m =
         ⊎_elim
-            (λ h. let from = from_map (entry {N = N} (k + 1)) entering s h in
-                inl (subst (λ (z : State N). IsReached pieces room z) from.2 (enters-reached pieces room k from.0 lt ((enters from.0).0 from.1))))
-            (λ h. inr (from_filter_map (taken piece room) layer s h))
-            (Contains-append_cases (entered (k + 1) entering) (filter_map (taken piece room) layer) s (subst (λ (zs : List (State N)). Contains zs s) is.whole m))
+        (λ h. let from = from_map (entry {N = N} (k + 1)) entering s h in
+        inl (subst (λ (z : State N). IsReached pieces room z) from.2 (enters-reached pieces room k from.0 lt ((enters from.0).0 from.1))))
+        (λ h. inr (from_filter_map (taken piece room) layer s h))
+        (Contains-append_cases (entered (k + 1) entering) (filter_map (taken piece room) layer) s (subst (λ (zs : List (State N)). Contains zs s) is.whole m))
 
     pub layer-here : (s : State N) → Contains layer s → s.piece ≡ k + 1
     layer-here s m = All-contains (λ (z : State N). z.piece ≡ k + 1) layer s is.here m
@@ -161,16 +161,16 @@ module _ {N : ℕ} (pieces : List (Piece N)) (room : List ℕ) (k : ℕ) (piece 
     layer-sound_by : (n : ℕ) (s : State N) → Contains layer s → s.copies ≤ n → IsReached pieces room s
     layer-sound_by zero s m le =
         ⊎_elim
-            (λ reached. reached)
-            (λ w. let more : s.copies ≡ w.0.copies + 1 = ap (λ (z : State N). z.copies) (taken-is piece room w.0 s w.2).2 in absurd (omega arith))
-            (layer-cases s m)
+        (λ reached. reached)
+        (λ w. let more : s.copies ≡ w.0.copies + 1 = ap (λ (z : State N). z.copies) (taken-is piece room w.0 s w.2).2 in absurd (omega arith))
+        (layer-cases s m)
     layer-sound_by (suc n) s m le =
         ⊎_elim
-            (λ reached. reached)
-            (λ w.
-                let more : s.copies ≡ w.0.copies + 1 = ap (λ (z : State N). z.copies) (taken-is piece room w.0 s w.2).2 in
-                next_reached pieces room w.0 s (Carries w.0.piece) (layer-sound_by n w.0 w.1 (omega arith)) (take-step w.0 s (layer-here w.0 w.1) w.2))
-            (layer-cases s m)
+        (λ reached. reached)
+        (λ w.
+        let more : s.copies ≡ w.0.copies + 1 = ap (λ (z : State N). z.copies) (taken-is piece room w.0 s w.2).2 in
+        next_reached pieces room w.0 s (Carries w.0.piece) (layer-sound_by n w.0 w.1 (omega arith)) (take-step w.0 s (layer-here w.0 w.1) w.2))
+        (layer-cases s m)
 
     pub layer-sound : (s : State N) → Contains layer s → IsReached pieces room s
     layer-sound s m = layer-sound_by s.copies s m (omega arith)
@@ -188,14 +188,14 @@ module _ {N : ℕ} (pieces : List (Piece N)) (room : List ℕ) (k : ℕ) (piece 
         subst (λ (zs : List (State N)). Contains zs s) (sym is.whole) (Contains-append_right (entered (k + 1) entering) (filter_map (taken piece room) layer) s next)
     step-layer r s Loss reached before step here =
         ⊎_elim
-            (λ w.
-                let up : s.piece ≡ r.piece + 1 = ap (λ (z : State N). z.piece) w.1 in
-                let r_here : r.piece ≡ k = omega arith in
-                enters-layer r.used s (enters-from pieces room k r reached r_here) (subst (λ (n : ℕ). s ≡ at_start pieces room n r.used) (omega arith) w.1))
-            (λ w.
-                let end : s.piece ≡ (target pieces room).piece = ap (λ (z : State N). z.piece) w.1 in
-                absurd (omega (arith, target-piece pieces room (omega arith))))
-            step
+        (λ w.
+        let up : s.piece ≡ r.piece + 1 = ap (λ (z : State N). z.piece) w.1 in
+        let r_here : r.piece ≡ k = omega arith in
+        enters-layer r.used s (enters-from pieces room k r reached r_here) (subst (λ (n : ℕ). s ≡ at_start pieces room n r.used) (omega arith) w.1))
+        (λ w.
+        let end : s.piece ≡ (target pieces room).piece = ap (λ (z : State N). z.piece) w.1 in
+        absurd (omega (arith, target-piece pieces room (omega arith))))
+        step
 
     layer-complete_at : (n : ℕ) (s : State N) → ReachedIn pieces room n s → s.piece ≡ k + 1 → Contains layer s
     layer-complete_at zero s h here =

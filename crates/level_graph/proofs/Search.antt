@@ -1,14 +1,13 @@
 -- A binary search among states in order finds each of them.
-use Rattle.std.proofs.Common.{◌≡◌, ℕ, ◌+◌, ◌-◌, ◌<◌, ◌≤◌, ◌⊎◌, List, [], ◌∷◌, length, get_or, refl, sym, ap, ◌∙◌, subst, inl, inr, ⊎_elim, arith}
+use Rattle.std.proofs.Common.{◌≡◌, ℕ, ◌+◌, ◌-◌, ◌<◌, ◌≤◌, List, [], ◌∷◌, length, get_or, refl, sym, ap, ◌∙◌, subst, ⊎_elim, arith}
 use Rattle.std.specs.Prelude.{Contains, AllPairs}
 use Rattle.std.specs.Ordering.{nat_cmp, ordering_then, ordering_index}
-use Rattle.std.specs.List.{AllWithin}
 use Rattle.std.specs.List.Sorted.{IsNonDecreasingBy, IsPartitionPoint}
 use Rattle.std.specs.declared.cmp.Ordering.{Ordering}
 use Rattle.std.specs.declared.cmp.Ordering.TheVariants.{Less, Equal, Greater}
 use Rattle.std.specs.Cmp.Lexicographic.{slice_cmp}
 use Rattle.std.proofs.lemmas.Cmp.{ranked, by_ranked, tied_itself}
-use Rattle.std.proofs.lemmas.Bool.{cases_lt, cases_order}
+use Rattle.std.proofs.lemmas.Bool.{cases_lt}
 use Rattle.level_graph.specs.declared.states.State.{State}
 use Rattle.level_graph.specs.Levels.{StateBefore, state_cmp, IsNode}
 use Rattle.level_graph.proofs.StateOrder.{state_total}
@@ -22,9 +21,9 @@ then_equal Greater p h = absurd (let bad : Greater ≡ Equal = h in cc)
 number_equal : (x y : ℕ) → nat_cmp x y ≡ Equal → x ≡ y
 number_equal x y h =
     by_ranked (x < y) (x ≡ y) (y < x) (nat_cmp x y) (ranked x y (nat_cmp x y) refl)
-        (λ is lt. absurd (let bad : Less ≡ Equal = sym is ∙ h in cc))
-        (λ is same. same)
-        (λ is gt. absurd (let bad : Greater ≡ Equal = sym is ∙ h in cc))
+    (λ is lt. absurd (let bad : Less ≡ Equal = sym is ∙ h in cc))
+    (λ is same. same)
+    (λ is gt. absurd (let bad : Greater ≡ Equal = sym is ∙ h in cc))
 
 list_equal : (xs ys : List ℕ) → slice_cmp nat_cmp xs ys ≡ Equal → xs ≡ ys
 list_equal [] [] h = refl
@@ -68,25 +67,25 @@ module _ {N : ℕ} where
   searchable : (states : List (State N)) (wanted : State N) → AllPairs StateBefore states → IsNonDecreasingBy (λ (y : State N). ordering_index (state_cmp y wanted)) states
   searchable states wanted up i j d le in_range =
       ⊎_elim
-          (λ lt. rank_rises (get_or states i d) (get_or states j d) wanted (up i j d lt in_range) (state_cmp (get_or states j d) wanted) refl)
-          (λ ge. let same : i ≡ j = omega arith in
-              let e : ordering_index (state_cmp (get_or states i d) wanted) ≡ ordering_index (state_cmp (get_or states j d) wanted) = ap (λ (n : ℕ). ordering_index (state_cmp (get_or states n d) wanted)) same in
-              omega arith)
-          (cases_lt i j)
+      (λ lt. rank_rises (get_or states i d) (get_or states j d) wanted (up i j d lt in_range) (state_cmp (get_or states j d) wanted) refl)
+      (λ ge. let same : i ≡ j = omega arith in
+      let e : ordering_index (state_cmp (get_or states i d) wanted) ≡ ordering_index (state_cmp (get_or states j d) wanted) = ap (λ (n : ℕ). ordering_index (state_cmp (get_or states n d) wanted)) same in
+      omega arith)
+      (cases_lt i j)
 
   pub never_missed : (states : List (State N)) (wanted : State N) (at : ℕ) → AllPairs StateBefore states → Contains states wanted → (IsNonDecreasingBy (λ (y : State N). ordering_index (state_cmp y wanted)) states → IsPartitionPoint (λ (y : State N). state_cmp y wanted ≡ Less) (λ (y : State N). state_cmp y wanted ≡ Greater) states at) → ⊥
   never_missed states wanted at up there missed =
       let parts = missed (searchable states wanted up) in
       ⊎_elim
-          (λ lt.
-              let less : state_cmp (get_or states there.0 wanted) wanted ≡ Less = parts.0 there.0 wanted (omega arith) lt in
-              never_before_itself wanted (subst (λ (z : State N). state_cmp z wanted ≡ Less) there.2 less))
-          (λ ge.
-              let greater : state_cmp (get_or states there.0 wanted) wanted ≡ Greater = parts.1 there.0 wanted ge there.1 in
-              let itself : state_cmp wanted wanted ≡ Greater = subst (λ (z : State N). state_cmp z wanted ≡ Greater) there.2 greater in
-              let equal : state_cmp wanted wanted ≡ Equal = tied_itself state_total wanted in
-              let bad : Equal ≡ Greater = sym equal ∙ itself in cc)
-          (cases_lt there.0 at)
+      (λ lt.
+      let less : state_cmp (get_or states there.0 wanted) wanted ≡ Less = parts.0 there.0 wanted (omega arith) lt in
+      never_before_itself wanted (subst (λ (z : State N). state_cmp z wanted ≡ Less) there.2 less))
+      (λ ge.
+      let greater : state_cmp (get_or states there.0 wanted) wanted ≡ Greater = parts.1 there.0 wanted ge there.1 in
+      let itself : state_cmp wanted wanted ≡ Greater = subst (λ (z : State N). state_cmp z wanted ≡ Greater) there.2 greater in
+      let equal : state_cmp wanted wanted ≡ Equal = tied_itself state_total wanted in
+      let bad : Equal ≡ Greater = sym equal ∙ itself in cc)
+      (cases_lt there.0 at)
 
   pub found_node : (states : List (State N)) (wanted : State N) (at : ℕ) → at < length states → ((d : State N) → state_cmp (get_or states at d) wanted ≡ Equal) → IsNode states (at + 1) wanted
   found_node states wanted at lt equal =

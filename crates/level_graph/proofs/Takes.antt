@@ -1,8 +1,7 @@
 -- When one more copy fits, and what follows from it.
-use Rattle.std.proofs.Common.{◌≡◌, ℕ, zero, suc, ◌+◌, ◌<◌, ◌≤◌, ◌⊎◌, Bool, true, false, List, [], ◌∷◌, length, get_or, nat_lt, nat_le, nat_eq, ◌&&◌, refl, sym, ap, ◌∙◌, inl, inr, ⊎_elim, Option, Some, None, arith}
-use Rattle.std.proofs.lemmas.Bool.{ltb-true, leb-true, eqb-true, lt-ltb, le-leb, eq-eqb, and_parts, and_from, and_left, and_right, cases_Bool, cases_lt, le-ltb, false≢true}
+use Rattle.std.proofs.Common.{◌≡◌, ℕ, zero, suc, ◌+◌, ◌<◌, ◌≤◌, Bool, true, false, List, [], ◌∷◌, length, get_or, nat_lt, nat_le, nat_eq, ◌&&◌, refl, ◌∙◌, ⊎_elim, Some, None, arith}
+use Rattle.std.proofs.lemmas.Bool.{ltb-true, leb-true, eqb-true, lt-ltb, le-leb, eq-eqb, and_parts, and_from, and_right, cases_Bool}
 use Rattle.weight_vec.specs.Weight.{AtMost, Before, plus}
-use Rattle.weight_vec.proofs.Places.{length-plus}
 use Rattle.weight_vec.proofs.Orders.{slice_cmp-plus}
 use Rattle.label_graph.specs.declared.parts.Piece.{Piece}
 use Rattle.level_graph.specs.declared.states.State.{State}
@@ -37,18 +36,18 @@ module _ {N : ℕ} (piece : Piece N) (room : List ℕ) where
   pub taken-too_heavy : (s : State N) → (AtMost (plus s.used piece.weight) room → ⊥) → taken piece room s ≡ None
   taken-too_heavy s heavy =
       ⊎_elim
-          (λ t. absurd (heavy (at_most-sound (plus s.used piece.weight) room t)))
-          (λ f. let e : is_taken s ≡ false = and_right (nat_lt s.copies piece.copies) (at_most (plus s.used piece.weight) room) f in rw e refl)
-          (cases_Bool (at_most (plus s.used piece.weight) room))
+      (λ t. absurd (heavy (at_most-sound (plus s.used piece.weight) room t)))
+      (λ f. let e : is_taken s ≡ false = and_right (nat_lt s.copies piece.copies) (at_most (plus s.used piece.weight) room) f in rw e refl)
+      (cases_Bool (at_most (plus s.used piece.weight) room))
 
   pub taken-is : (s t : State N) → taken piece room s ≡ Some t → (s.copies < piece.copies) × AtMost (plus s.used piece.weight) room × (t ≡ record { piece = s.piece; copies = s.copies + 1; used = plus s.used piece.weight })
   taken-is s t h =
       ⊎_elim
-          (λ e. let parts = and_parts (nat_lt s.copies piece.copies) (at_most (plus s.used piece.weight) room) e in
-              let same : Some (record { piece = s.piece; copies = s.copies + 1; used = plus s.used piece.weight }) ≡ Some t = rw e at h in
-              (ltb-true s.copies piece.copies parts.0, at_most-sound (plus s.used piece.weight) room parts.1, cc))
-          (λ e. absurd (let bad : None ≡ Some t = rw e at h in cc))
-          (cases_Bool (is_taken s))
+      (λ e. let parts = and_parts (nat_lt s.copies piece.copies) (at_most (plus s.used piece.weight) room) e in
+      let same : Some (record { piece = s.piece; copies = s.copies + 1; used = plus s.used piece.weight }) ≡ Some t = rw e at h in
+      (ltb-true s.copies piece.copies parts.0, at_most-sound (plus s.used piece.weight) room parts.1, cc))
+      (λ e. absurd (let bad : None ≡ Some t = rw e at h in cc))
+      (cases_Bool (is_taken s))
 
   -- takes keep the order of states of one piece
   pub taken-keeps_order : (s t s' t' : State N) → s.piece ≡ t.piece → length s.used ≡ N → length t.used ≡ N → length piece.weight ≡ N → taken piece room s ≡ Some s' → taken piece room t ≡ Some t' → StateBefore s t → StateBefore s' t'

@@ -1,5 +1,5 @@
 -- What a sort and the removal of equal neighbours leave of a list of weights.
-use Rattle.std.proofs.Common.{◌≡◌, ℕ, ◌<◌, ◌↔◌, Bool, true, false, List, [], ◌∷◌, length, get_or, map, nat_eq, refl, sym, ap, ◌∙◌, subst, arith}
+use Rattle.std.proofs.Common.{◌≡◌, ℕ, ◌↔◌, true, List, [], ◌∷◌, nat_eq, refl, arith}
 use Rattle.std.specs.Prelude.{Contains, AllPairs}
 use Rattle.std.specs.List.{dedup}
 use Rattle.std.specs.List.Sorted.{IsSorted, IsPermutation}
@@ -29,8 +29,9 @@ number_ties x y = grind (arith, nat_tests)
 pub different_weights : (all sorted kept : List (List ℕ)) → IsPermutation all sorted → IsSorted (slice_cmp nat_cmp) sorted → kept ≡ dedup (pointwise nat_eq) sorted → AllPairs Before kept × ((x : List ℕ) → Contains kept x ↔ Contains all x)
 different_weights all sorted kept permuted up is =
     rw is (
-        (λ i j d lt in_range. Less-from_sorted (slice_cmp nat_cmp) (dedup (pointwise nat_eq) sorted) i j d (IsStrictlySortedBy-dedup nat_list_cmp_total (lists_ties nat_cmp number_ties) sorted up) lt in_range),
-        (λ x.
-            (λ m. Contains-permutation sorted all x (IsPermutation-sym all sorted permuted) (Contains-from_dedup (pointwise nat_eq) sorted x m),
-             λ m. Contains-dedup nat_list_eq_equiv same_numbers sorted x (Contains-permutation all sorted x permuted m)))
+      (λ i j d lt in_range. Less-from_sorted (slice_cmp nat_cmp) (dedup (pointwise nat_eq) sorted) i j d (IsStrictlySortedBy-dedup nat_list_cmp_total (lists_ties nat_cmp number_ties) sorted up) lt in_range),
+      (λ x. (
+        λ m. Contains-permutation sorted all x (IsPermutation-sym all sorted permuted) (Contains-from_dedup (pointwise nat_eq) sorted x m),
+        λ m. Contains-dedup nat_list_eq_equiv same_numbers sorted x (Contains-permutation all sorted x permuted m),
+      )),
     )

@@ -1,11 +1,12 @@
 -- The level graph of a list of pieces and a capacity. A state stands at a piece, with some copies of it taken and
 -- some weight used.
-use Rattle.std.specs.Prelude.{◌≡◌, ◌≢◌, ◌⊎◌, ◌↔◌, ℕ, ◌+◌, ◌-◌, ◌≤◌, ◌<◌, List, [], ◌∷◌, All, AllPairs, Contains, length, map, replicate, slice_index_or}
+use Rattle.std.specs.Prelude.{◌≡◌, ◌⊎◌, ◌↔◌, ℕ, ◌+◌, ◌-◌, ◌≤◌, ◌<◌, List, [], ◌∷◌, All, AllPairs, Contains, length, map, replicate, slice_index_or}
 use Rattle.std.proofs.Common.{zero, suc}
 use Rattle.std.specs.Ordering.{nat_cmp, ordering_then}
 use Rattle.std.specs.declared.cmp.Ordering.{Ordering}
 use Rattle.std.specs.declared.cmp.Ordering.TheVariants.{Less}
 use Rattle.std.specs.Cmp.Lexicographic.{slice_cmp}
+use Rattle.arc_num.specs.declared.TheConstants.{MAX_ALL_FORMS}
 use Rattle.label_graph.specs.declared.parts.GraphArc.{GraphArc}
 use Rattle.label_graph.specs.declared.parts.Piece.{Piece}
 use Rattle.label_graph.specs.declared.parts.Mark.{Mark}
@@ -16,7 +17,7 @@ use Rattle.level_graph.specs.declared.states.State.{State}
 
 -- what is asked of the pieces: each fits, weighs something and has a copy, and no two are of one form
 pub record IsPieceList {N : ℕ} (pieces : List (Piece N)) (cap : List ℕ) : Type 0 where
-  pub few : length pieces ≤ 8000
+  pub few : length pieces ≤ MAX_ALL_FORMS
   pub apart : AllPairs (λ p q. ((p.item ≡ q.item) × (p.form ≡ q.form)) → ⊥) pieces
   pub fit : All (λ q. AtMost q.weight cap) pieces
   pub heavy : All (λ q. IsZero q.weight → ⊥) pieces

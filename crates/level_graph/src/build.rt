@@ -5,14 +5,18 @@ ghost use Rattle.level_graph.specs.Layers.{AreStates, AppendsStep, take_mark, sk
 
 use crate::layers::{layer_of, take, used_weights, weights_of};
 use crate::states::State;
-use arc_num::Memory;
+use arc_num::{MAX_ALL_FORMS, Memory};
 use label_graph::{Graph, GraphArc, Mark, Piece};
 use std::alloc::Global;
 use weight_vec::Weights;
 
 /// The level graph of the pieces: its nodes are the states that takes and skips reach, each labelled with its weight
 /// and the target with the capacity, and its arcs are the takes and skips.
-pub fn levels<const N: usize>(alloc: Global, pieces: &[Piece<N>], cap: &Weights<N>) -> Result<Graph<N>, Memory>
+pub fn levels<const N: usize>(
+    alloc: Global,
+    pieces: &[Piece<N>],
+    cap: &Weights<N>,
+) -> Result<Graph<N>, Memory>
     requires small { N ≤ 32 }
     requires pieces { IsPieceList pieces.now cap.now }
     ensures { IfOk result (λ graph. IsLevelGraph pieces.now cap.now graph) }
@@ -49,7 +53,11 @@ fn known_pieces<const N: usize>(pieces: &[Piece<N>])
 }
 
 // All states, in order, the target last.
-fn states_of<const N: usize>(alloc: Global, pieces: &[Piece<N>], cap: &Weights<N>) -> Result<Vec<State<N>>, Memory>
+fn states_of<const N: usize>(
+    alloc: Global,
+    pieces: &[Piece<N>],
+    cap: &Weights<N>,
+) -> Result<Vec<State<N>>, Memory>
     requires small { N ≤ 32 }
     requires pieces { IsPieceList pieces.now cap.now }
     ensures { IfOk result (λ states. AreStates pieces.now cap.now states.items) }
@@ -70,7 +78,7 @@ fn states_of<const N: usize>(alloc: Global, pieces: &[Piece<N>], cap: &Weights<N
 // The state past the last piece.
 fn target_of<const N: usize>(pieces: &[Piece<N>], cap: &Weights<N>) -> State<N>
     requires small { N ≤ 32 }
-    requires few { length pieces.now ≤ 8000 }
+    requires few { length pieces.now ≤ MAX_ALL_FORMS }
     ensures { result ≡ target pieces.now cap.now }
 {
     if pieces.is_empty() {
@@ -88,9 +96,14 @@ fn target_of<const N: usize>(pieces: &[Piece<N>], cap: &Weights<N>) -> State<N>
 }
 
 // The arcs between the states, in order.
-fn arcs_of<const N: usize>(alloc: Global, pieces: &[Piece<N>], cap: &Weights<N>, states: &[State<N>]) -> Result<Vec<GraphArc>, Memory>
+fn arcs_of<const N: usize>(
+    alloc: Global,
+    pieces: &[Piece<N>],
+    cap: &Weights<N>,
+    states: &[State<N>],
+) -> Result<Vec<GraphArc>, Memory>
     requires small { N ≤ 32 }
-    requires few { length pieces.now ≤ 8000 }
+    requires few { length pieces.now ≤ MAX_ALL_FORMS }
     requires states { AreStates pieces.now cap.now states.now }
     ensures { IfOk result (λ arcs. IsLevels pieces.now cap.now states.now arcs.items) }
 {
@@ -116,7 +129,13 @@ fn node_of<const N: usize>(states: &[State<N>], wanted: &State<N>) -> u64
 }
 
 // Appends the arc of a take from the state at this index, if there is one.
-fn push_take<const N: usize>(arcs: &mut Vec<GraphArc>, pieces: &[Piece<N>], cap: &Weights<N>, states: &[State<N>], index: usize) -> Result<(), Memory>
+fn push_take<const N: usize>(
+    arcs: &mut Vec<GraphArc>,
+    pieces: &[Piece<N>],
+    cap: &Weights<N>,
+    states: &[State<N>],
+    index: usize,
+) -> Result<(), Memory>
     requires small { N ≤ 32 }
     requires states { AreStates pieces.now cap.now states.now }
     requires index { index < length states.now }
@@ -138,9 +157,15 @@ fn push_take<const N: usize>(arcs: &mut Vec<GraphArc>, pieces: &[Piece<N>], cap:
 }
 
 // Appends the arc of a skip from the state at this index, if there is one.
-fn push_skip<const N: usize>(arcs: &mut Vec<GraphArc>, pieces: &[Piece<N>], cap: &Weights<N>, states: &[State<N>], index: usize) -> Result<(), Memory>
+fn push_skip<const N: usize>(
+    arcs: &mut Vec<GraphArc>,
+    pieces: &[Piece<N>],
+    cap: &Weights<N>,
+    states: &[State<N>],
+    index: usize,
+) -> Result<(), Memory>
     requires small { N ≤ 32 }
-    requires few { length pieces.now ≤ 8000 }
+    requires few { length pieces.now ≤ MAX_ALL_FORMS }
     requires states { AreStates pieces.now cap.now states.now }
     requires index { index < length states.now }
     ensures { OnOk result (AppendsStep pieces.now cap.now states.now index skip_mark arcs.old.items arcs.new.items) }
@@ -158,7 +183,7 @@ fn push_skip<const N: usize>(arcs: &mut Vec<GraphArc>, pieces: &[Piece<N>], cap:
 // The state at the next piece or past the last one, if there is one.
 fn skip<const N: usize>(state: &State<N>, pieces: &[Piece<N>], cap: &Weights<N>) -> Option<State<N>>
     requires small { N ≤ 32 }
-    requires few { length pieces.now ≤ 8000 }
+    requires few { length pieces.now ≤ MAX_ALL_FORMS }
     ensures { result ≡ skipped pieces.now cap.now state.now }
 {
     let number = state.piece as usize;

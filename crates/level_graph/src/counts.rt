@@ -8,7 +8,11 @@ use std::alloc::Global;
 use weight_vec::Weights;
 
 /// The numbers of nodes and arcs of the level graph, with the states of one piece in memory at a time.
-pub fn level_counts<const N: usize>(alloc: Global, pieces: &[Piece<N>], cap: &Weights<N>) -> Result<(u128, u128), Memory>
+pub fn level_counts<const N: usize>(
+    alloc: Global,
+    pieces: &[Piece<N>],
+    cap: &Weights<N>,
+) -> Result<(u128, u128), Memory>
     requires small { N ≤ 32 }
     requires pieces { IsPieceList pieces.now cap.now }
     ensures { IfOk result (λ counts. IsLevelCount pieces.now cap.now counts.0 counts.1) }

@@ -5,17 +5,14 @@ ghost use Rattle.level_graph.specs.LevelLaws.{PathsAreChoices, ChoicesHaveOnePat
 /// The content of each path from the source to the target is there and fits.
 pub fn paths_are_choices()
     ensures { PathsAreChoices }
-{
-}
+{}
 
 /// Each content that is there and fits is that of exactly one path from the source to the target.
 pub fn choices_have_one_path()
     ensures { ChoicesHaveOnePath }
-{
-}
+{}
 
 /// There is but one level graph of a list of pieces and a capacity.
 pub fn levels_are_one()
     ensures { LevelsAreOne }
-{
-}
+{}

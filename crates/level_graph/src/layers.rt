@@ -12,7 +12,11 @@ use std::alloc::Global;
 use weight_vec::Weights;
 
 // The state after one more copy of the piece, if there is one that fits.
-pub fn take<const N: usize>(state: &State<N>, piece: &Piece<N>, cap: &Weights<N>) -> Option<State<N>>
+pub fn take<const N: usize>(
+    state: &State<N>,
+    piece: &Piece<N>,
+    cap: &Weights<N>,
+) -> Option<State<N>>
     requires small { N ≤ 32 }
     ensures { result ≡ taken piece.now cap.now state.now }
 {
@@ -34,7 +38,13 @@ pub fn take<const N: usize>(state: &State<N>, piece: &Piece<N>, cap: &Weights<N>
 }
 
 // The states at the piece with this number, from the weights that enter it.
-pub fn layer_of<const N: usize>(alloc: Global, number: u32, piece: &Piece<N>, cap: &Weights<N>, entering: &[Weights<N>]) -> Result<Vec<State<N>>, Memory>
+pub fn layer_of<const N: usize>(
+    alloc: Global,
+    number: u32,
+    piece: &Piece<N>,
+    cap: &Weights<N>,
+    entering: &[Weights<N>],
+) -> Result<Vec<State<N>>, Memory>
     requires small { N ≤ 32 }
     requires entering { AllPairs Before entering.now }
     ensures { IfOk result (λ layer. IsLayer number piece.now cap.now entering.now layer.items) }
@@ -53,7 +63,11 @@ pub fn layer_of<const N: usize>(alloc: Global, number: u32, piece: &Piece<N>, ca
 }
 
 // The states of a piece before any copy of it is taken.
-fn entered_states<const N: usize>(alloc: Global, number: u32, entering: &[Weights<N>]) -> Result<Vec<State<N>>, Memory>
+fn entered_states<const N: usize>(
+    alloc: Global,
+    number: u32,
+    entering: &[Weights<N>],
+) -> Result<Vec<State<N>>, Memory>
     requires small { N ≤ 32 }
     ensures items { IfOk result (λ layer. layer.items ≡ entered number entering.now) }
     ensures sized { IfOk result (λ layer. All (λ s. length s.used ≡ N) layer.items) }
@@ -72,7 +86,10 @@ fn entered_states<const N: usize>(alloc: Global, number: u32, entering: &[Weight
 }
 
 // The different weights of the states, in order.
-pub fn weights_of<const N: usize>(alloc: Global, layer: &[State<N>]) -> Result<Vec<Weights<N>>, Memory>
+pub fn weights_of<const N: usize>(
+    alloc: Global,
+    layer: &[State<N>],
+) -> Result<Vec<Weights<N>>, Memory>
     requires small { N ≤ 32 }
     ensures { IfOk result (λ weights. AreWeights layer.now weights.items) }
 {
@@ -83,7 +100,10 @@ pub fn weights_of<const N: usize>(alloc: Global, layer: &[State<N>]) -> Result<V
 }
 
 // The weight of each state.
-pub fn used_weights<const N: usize>(alloc: Global, layer: &[State<N>]) -> Result<Vec<Weights<N>>, Memory>
+pub fn used_weights<const N: usize>(
+    alloc: Global,
+    layer: &[State<N>],
+) -> Result<Vec<Weights<N>>, Memory>
     requires small { N ≤ 32 }
     ensures { IfOk result (λ weights. weights.items ≡ map (λ s. s.used) layer.now) }
 {

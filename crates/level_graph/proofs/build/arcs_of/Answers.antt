@@ -1,6 +1,5 @@
-use Rattle.std.proofs.Common.{◌≡◌, List, [], ◌∷◌, ◌+◌, ◌-◌, ◌≤◌, ◌<◌, length, get_or, refl, sym, subst, arith, rules}
-use Rattle.label_graph.specs.declared.parts.GraphArc.{GraphArc}
-use Rattle.level_graph.proofs.Arcs.{ArcsSoFar, arcs-start, arcs-more, arcs-all, node-at}
+use Rattle.std.proofs.Common.{arith}
+use Rattle.level_graph.proofs.Arcs.{arcs-start, arcs-more, arcs-all, node-at}
 use Rattle.level_graph.proofs.build.arcs_of.Goals as goal
 
 pub loop-index-init : goal.loop-index-init

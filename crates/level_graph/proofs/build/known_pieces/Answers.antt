@@ -1,4 +1,4 @@
-use Rattle.std.proofs.Common.{◌≡◌, ◌<◌, ℕ, List, length, take, get_or, sym, subst, arith}
+use Rattle.std.proofs.Common.{◌≡◌, ◌<◌, length, get_or, subst}
 use Rattle.std.proofs.lemmas.List.Elements.{All-more}
 use Rattle.label_graph.specs.declared.parts.Piece.{Piece}
 use Rattle.weight_vec.specs.Weight.{IsInRange}
@@ -12,6 +12,6 @@ loop-piece-preserved g c =
     let sized : length (get_or c.args.pieces.now i here).weight ≡ g.row.N = subst (λ (q : Piece g.row.N). length q.weight ≡ g.row.N) c.piece-item.is c.known.ensures.places in
     let ranged : IsInRange (get_or c.args.pieces.now i here).weight = subst (λ (q : Piece g.row.N). IsInRange q.weight) c.piece-item.is c.known.ensures.range in
     record {
-        sized = All-more (λ (q : Piece g.row.N). length q.weight ≡ g.row.N) c.args.pieces.now i here lt c.loop-piece.invariant.sized sized;
-        ranged = All-more (λ (q : Piece g.row.N). IsInRange q.weight) c.args.pieces.now i here lt c.loop-piece.invariant.ranged ranged
+      sized = All-more (λ (q : Piece g.row.N). length q.weight ≡ g.row.N) c.args.pieces.now i here lt c.loop-piece.invariant.sized sized;
+      ranged = All-more (λ (q : Piece g.row.N). IsInRange q.weight) c.args.pieces.now i here lt c.loop-piece.invariant.ranged ranged;
     }

@@ -1,6 +1,5 @@
-use Rattle.std.proofs.Common.{◌≡◌, ◌<◌, ℕ, List, length, take, get_or, sym, subst, arith}
+use Rattle.std.proofs.Common.{◌≡◌, ◌<◌, ℕ, List, length, get_or, subst}
 use Rattle.std.proofs.lemmas.List.Elements.{All-more}
-use Rattle.label_graph.specs.declared.parts.Piece.{Piece}
 use Rattle.weight_vec.specs.Weight.{IsInRange}
 use Rattle.level_graph.proofs.build.known_weights.Goals as goal
 
@@ -12,6 +11,6 @@ loop-weight-preserved g c =
     let sized : length (get_or c.args.weights.now i here) ≡ g.row.N = subst (λ (q : List ℕ). length q ≡ g.row.N) c.weight-item.is c.known.ensures.places in
     let ranged : IsInRange (get_or c.args.weights.now i here) = subst (λ (q : List ℕ). IsInRange q) c.weight-item.is c.known.ensures.range in
     record {
-        sized = All-more (λ (q : List ℕ). length q ≡ g.row.N) c.args.weights.now i here lt c.loop-weight.invariant.sized sized;
-        ranged = All-more (λ (q : List ℕ). IsInRange q) c.args.weights.now i here lt c.loop-weight.invariant.ranged ranged
+      sized = All-more (λ (q : List ℕ). length q ≡ g.row.N) c.args.weights.now i here lt c.loop-weight.invariant.sized sized;
+      ranged = All-more (λ (q : List ℕ). IsInRange q) c.args.weights.now i here lt c.loop-weight.invariant.ranged ranged;
     }

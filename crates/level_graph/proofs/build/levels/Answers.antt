@@ -1,7 +1,7 @@
-use Rattle.std.proofs.Common.{◌≡◌, ℕ, List, length, map, refl, sym, ap, ◌∙◌, subst, rules}
+use Rattle.std.proofs.Common.{◌≡◌, ℕ, List, length, map, sym, ap, ◌∙◌, subst, rules}
 use Rattle.std.specs.Prelude.{All}
 use Rattle.label_graph.specs.declared.parts.Piece.{Piece}
-use Rattle.weight_vec.specs.Weight.{IsInRange, IsZero}
+use Rattle.weight_vec.specs.Weight.{IsInRange}
 use Rattle.label_graph.specs.Graph.{IsGraph}
 use Rattle.level_graph.specs.declared.states.State.{State}
 use Rattle.level_graph.specs.Levels.{IsLevels}

@@ -1,4 +1,3 @@
-use Rattle.std.proofs.Common.{rules}
 use Rattle.level_graph.proofs.Search.{never_missed, found_node}
 use Rattle.level_graph.proofs.build.node_of.Goals as goal
 

@@ -1,5 +1,4 @@
-use Rattle.std.proofs.Common.{◌≡◌, ◌+◌, ◌++◌, List, [], ◌∷◌, refl, sym, subst, arith, rules, Some, None, ◌∙◌}
-use Rattle.label_graph.specs.declared.parts.GraphArc.{GraphArc}
+use Rattle.std.proofs.Common.{◌≡◌, sym, rules, Some, None, ◌∙◌}
 use Rattle.label_graph.specs.declared.parts.Mark.TheVariants.{Loss}
 use Rattle.level_graph.specs.Layers.{skip_mark}
 use Rattle.level_graph.proofs.Pushes.{skip-step, step-skip, step-contained, appends-one, appends-none}
@@ -18,4 +17,4 @@ returns-in_ok-push g c =
 pub returns-in_default : goal.returns-in_default
 returns-in_default g c =
     appends-none c.args.pieces.now c.args.cap.now c.args.states.now c.requires.states c.args.index c.requires.index c.index-states-index.result c.index-states-index.is skip_mark c.args.arcs.now.items
-        (λ t step. let bad : None ≡ Some t = c.in_default.ensures ∙ step-skip c.args.pieces.now c.args.cap.now c.index-states-index.result t step in cc)
+    (λ t step. let bad : None ≡ Some t = c.in_default.ensures ∙ step-skip c.args.pieces.now c.args.cap.now c.index-states-index.result t step in cc)

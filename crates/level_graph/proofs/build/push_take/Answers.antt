@@ -1,4 +1,4 @@
-use Rattle.std.proofs.Common.{◌≡◌, ◌+◌, ◌-◌, ◌≤◌, ◌++◌, List, [], ◌∷◌, length, refl, sym, subst, arith, rules, Some, None, ◌∙◌}
+use Rattle.std.proofs.Common.{◌≡◌, sym, arith, rules, Some, None, ◌∙◌}
 use Rattle.label_graph.specs.declared.parts.Mark.TheVariants.{Piece as Carries}
 use Rattle.level_graph.specs.Layers.{take_mark}
 use Rattle.level_graph.proofs.Pushes.{here-low, take-is_step, step-is_take, step-contained, appends-one, appends-none}
@@ -27,6 +27,6 @@ pub returns-in_default : goal.returns-in_default
 returns-in_default g c =
     let s = c.index-states-index.result in
     appends-none c.args.pieces.now c.args.cap.now c.args.states.now c.requires.states c.args.index c.requires.index s c.index-states-index.is take_mark c.args.arcs.now.items
-        (λ t step.
-            let bad : None ≡ Some t = c.in_default.ensures ∙ step-is_take c.args.pieces.now c.args.cap.now c.args.states.now c.requires.states c.args.index c.requires.index s c.index-states-index.is c.index-pieces-number.result c.if-number-pieces.false c.index-pieces-number.is t step in
-            cc)
+    (λ t step.
+    let bad : None ≡ Some t = c.in_default.ensures ∙ step-is_take c.args.pieces.now c.args.cap.now c.args.states.now c.requires.states c.args.index c.requires.index s c.index-states-index.is c.index-pieces-number.result c.if-number-pieces.false c.index-pieces-number.is t step in
+    cc)

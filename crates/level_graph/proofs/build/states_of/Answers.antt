@@ -1,4 +1,4 @@
-use Rattle.std.proofs.Common.{◌≡◌, ℕ, ◌+◌, List, ◌++◌, [], ◌∷◌, length, refl, sym, ap, ◌∙◌, subst, arith, rules}
+use Rattle.std.proofs.Common.{◌≡◌, ℕ, ◌+◌, List, ◌++◌, [], ◌∷◌, length, refl, sym, ap, ◌∙◌, subst, arith}
 use Rattle.level_graph.specs.declared.states.State.{State}
 use Rattle.level_graph.specs.Levels.{target}
 use Rattle.level_graph.specs.Layers.{IsLayer, AreWeights}
@@ -18,9 +18,10 @@ loop-piece-preserved g c =
     let lent = subst (λ (es : List (List ℕ)). IsLayer {N = g.row.N} (c.loop-piece.number + 1) piece c.args.cap.now es layer) c.as_slice.ensures.value c.in_ok-layer.ensures in
     let is = subst (λ (n : ℕ). IsLayer {N = g.row.N} (n + 1) piece c.args.cap.now entering layer) c.loop-piece.invariant.0 lent in
     let kept = subst (λ (ss : List (State g.row.N)). AreWeights ss c.in_ok-entering-2.entering.items) c.as_slice-in-loop-piece-2.ensures.value c.in_ok-entering-2.ensures in
-    let grown : c.extend_from_slice.new.self.items ≡ c.loop-piece.states.items ++ layer = c.in_ok-extend_from_slice.ensures.items ∙ ap (λ (ss : List (State g.row.N)). c.loop-piece.states.items ++ ss) c.as_slice-in-loop-piece.ensures.value in
-    (omega (arith, c.loop-piece.invariant.0),
-     rw grown (so_far-more c.args.pieces.now c.args.cap.now k piece c.loop-piece.states.items layer entering c.in_ok-entering-2.entering.items c.loop-piece-test.true (sym c.piece-item.is) c.loop-piece.invariant.1 is kept))
+    let grown : c.extend_from_slice.new.self.items ≡ c.loop-piece.states.items ++ layer = c.in_ok-extend_from_slice.ensures.items ∙ ap (λ (ss : List (State g.row.N)). c.loop-piece.states.items ++ ss) c.as_slice-in-loop-piece.ensures.value in (
+      omega (arith, c.loop-piece.invariant.0),
+      rw grown (so_far-more c.args.pieces.now c.args.cap.now k piece c.loop-piece.states.items layer entering c.in_ok-entering-2.entering.items c.loop-piece-test.true (sym c.piece-item.is) c.loop-piece.invariant.1 is kept),
+    )
 
 pub returns : goal.returns
 returns g c =

@@ -1,10 +1,9 @@
-use Rattle.std.proofs.Common.{◌≡◌, ℕ, List, [], ◌∷◌, ◌++◌, ◌≤◌, ◌<◌, ◌+◌, length, refl, sym, ap, ◌∙◌, arith, rules, append-nil}
+use Rattle.std.proofs.Common.{◌≡◌, [], ◌∷◌, ◌++◌, ◌<◌, length, sym, ◌∙◌, arith, append-nil}
 use Rattle.std.specs.Prelude.{AllPairs}
 use Rattle.std.proofs.lemmas.List.{length-append}
-use Rattle.level_graph.specs.declared.states.State.{State}
 use Rattle.level_graph.specs.Levels.{StateBefore}
 use Rattle.level_graph.specs.Layers.{entered}
-use Rattle.level_graph.proofs.LayerSteps.{Growing, growing_stay, growing_push, growing_done, entered-ordered}
+use Rattle.level_graph.proofs.LayerSteps.{growing_stay, growing_push, growing_done, entered-ordered}
 use Rattle.level_graph.proofs.layers.layer_of.Goals as goal
 use Rattle.level_graph.proofs.layers.layer_of.Goals.{in-Some+in_ok-push, in_default}
 
@@ -19,18 +18,18 @@ loop-index-preserved g c =
     let old = c.loop-index.invariant.1 in
     let lt : c.loop-index.index < length c.loop-index.layer.items = omega (arith, c.loop-index.invariant.0) in
     elim c.match-take.branch [
-        in-Some+in_ok-push w ↦
-            let e : c.match-take.layer.items ≡ c.loop-index.layer.items ++ w.in-Some.next ∷ [] = cc (w.layer-is, w.in_ok-push.ensures.items) in
-            rw e (
-                omega (arith, length-append c.loop-index.layer.items (w.in-Some.next ∷ [])),
-                growing_push c.args.number c.args.piece.now c.args.cap.now c.args.entering.now c.known.ensures.places c.loop-index.layer.items c.loop-index.index c.index.result.now w.in-Some.next old lt c.index.ensures (sym w.in-Some.ensures)
-            )
-        | in_default w ↦
-            let e : c.match-take.layer.items ≡ c.loop-index.layer.items = cc (w.layer-is) in
-            rw e (
-                omega arith,
-                growing_stay c.args.number c.args.piece.now c.args.cap.now c.args.entering.now c.known.ensures.places c.loop-index.layer.items c.loop-index.index c.index.result.now old lt c.index.ensures (sym w.in_default.ensures)
-            )
+      | in-Some+in_ok-push w ↦
+          let e : c.match-take.layer.items ≡ c.loop-index.layer.items ++ w.in-Some.next ∷ [] = cc (w.layer-is, w.in_ok-push.ensures.items) in
+          rw e (
+            omega (arith, length-append c.loop-index.layer.items (w.in-Some.next ∷ [])),
+            growing_push c.args.number c.args.piece.now c.args.cap.now c.args.entering.now c.known.ensures.places c.loop-index.layer.items c.loop-index.index c.index.result.now w.in-Some.next old lt c.index.ensures (sym w.in-Some.ensures),
+          )
+      | in_default w ↦
+          let e : c.match-take.layer.items ≡ c.loop-index.layer.items = cc (w.layer-is) in
+          rw e (
+            omega arith,
+            growing_stay c.args.number c.args.piece.now c.args.cap.now c.args.entering.now c.known.ensures.places c.loop-index.layer.items c.loop-index.index c.index.result.now old lt c.index.ensures (sym w.in_default.ensures),
+          )
     ]
 
 pub returns-then-index-len : goal.returns-then-index-len

@@ -1,4 +1,4 @@
-use Rattle.std.proofs.Common.{rules, arith, sym, refl}
+use Rattle.std.proofs.Common.{arith, sym, refl}
 use Rattle.std.proofs.lemmas.Bool.{false≢true}
 use Rattle.level_graph.proofs.Takes.{taken-some, taken-too_heavy}
 use Rattle.level_graph.proofs.layers.take.Goals as goal

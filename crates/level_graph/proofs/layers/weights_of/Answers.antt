@@ -1,6 +1,5 @@
-use Rattle.std.proofs.Common.{◌≡◌, ℕ, List, ◌++◌, map, refl, sym, ap, ◌∙◌, subst, arith, rules, nat_eq}
+use Rattle.std.proofs.Common.{◌≡◌, ℕ, List, map, sym, subst, nat_eq}
 use Rattle.std.specs.Prelude.{Contains}
-use Rattle.std.specs.List.{dedup}
 use Rattle.std.specs.Cmp.Lexicographic.{pointwise}
 use Rattle.std.proofs.lemmas.List.Filters.{dedup_is}
 use Rattle.level_graph.specs.declared.states.State.{State}
@@ -14,9 +13,9 @@ returns g c =
     let made : c.in_ok-weights.weights.items ≡ map used c.args.layer.now = c.in_ok-weights.ensures in
     let kept = different_weights c.in_ok-weights.weights.items c.sort_unstable.new.self.items c.dedup.new.self.items c.sort_unstable.ensures.permutation c.sort_unstable.ensures.sorted (dedup_is (pointwise nat_eq) c.sort_unstable.new.self.items c.dedup.new.self.items c.dedup.ensures.filtered) in
     record {
-        ordered = kept.0;
-        exact = λ x. (
-            λ m. from_map used c.args.layer.now x (subst (λ (zs : List (List ℕ)). Contains zs x) made ((kept.1 x).0 m)),
-            λ w. (kept.1 x).1 (subst (λ (zs : List (List ℕ)). Contains zs x) (sym made) (subst (λ (y : List ℕ). Contains (map used c.args.layer.now) y) w.2 (contains_map used c.args.layer.now w.0 w.1)))
-        )
+      ordered = kept.0;
+      exact = λ x. (
+        λ m. from_map used c.args.layer.now x (subst (λ (zs : List (List ℕ)). Contains zs x) made ((kept.1 x).0 m)),
+        λ w. (kept.1 x).1 (subst (λ (zs : List (List ℕ)). Contains zs x) (sym made) (subst (λ (y : List ℕ). Contains (map used c.args.layer.now) y) w.2 (contains_map used c.args.layer.now w.0 w.1))),
+      );
     }
