@@ -2,5 +2,7 @@ pub mod Instances
 pub mod Packings
 pub mod Printed
 pub mod Floors
-pub mod Choices
 pub mod FloorExamples
+pub mod Choices
+pub mod Places
+pub mod Layouts

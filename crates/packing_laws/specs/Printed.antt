@@ -1,7 +1,7 @@
 -- Packings as they are written down: bins, each with the number of times that it is used.
-use Rattle.std.specs.Prelude.{◌≡◌, ℕ, ◌+◌, ◌*◌, ◌<◌, ◌≤◌, List, [], ◌∷◌, All, length, replicate, sum_by}
+use Rattle.std.specs.Prelude.{◌≡◌, ℕ, ◌+◌, ◌*◌, ◌<◌, ◌≤◌, List, [], ◌∷◌, All, length, replicate, sum_by, filter, nat_lt}
 use Rattle.std.specs.List.{flat_map}
-use Rattle.std.specs.List.Sorted.{IsStrictlySortedBy}
+use Rattle.std.specs.List.Sorted.{IsStrictlySortedBy, IsPermutation}
 use Rattle.std.specs.Ordering.{nat_cmp, ordering_then}
 use Rattle.std.specs.Cmp.Lexicographic.{slice_cmp}
 use Rattle.std.specs.declared.cmp.Ordering.{Ordering}
@@ -50,3 +50,25 @@ pub record IsTidyBin (b : Bin) : Type 0 where
 pub record IsTidy (bins : List Bin) : Type 0 where
   pub each : All IsTidyBin bins
   pub order : IsStrictlySortedBy bin_cmp bins
+
+-- how many units are in a content
+abbrev pub units_in : Content → ℕ
+units_in c = sum_by (λ n. n.count) c
+
+-- the bins that are not empty
+abbrev pub filled_bins : Bins → Bins
+filled_bins P = filter (λ b. nat_lt 0 (units_in b.1)) P
+
+-- one bin after the other, the types are equal and the contents have as many of each form
+abbrev pub AreAlike : Bins → Bins → Type 0
+AreAlike [] [] = Unit {0}
+AreAlike (b ∷ P) (c ∷ Q) = (b.0 ≡ c.0) × SameContent b.1 c.1 × AreAlike P Q
+AreAlike [] (c ∷ Q) = ⊥
+AreAlike (b ∷ P) [] = ⊥
+
+-- the new bins are in the printed form, and they are the old ones that are not empty, in some order
+pub record IsTidied (old new : List Bin) : Type 0 where
+  pub tidy : IsTidy new
+  pub order : Bins
+  pub rearranged : IsPermutation (filled_bins (bins_of old)) order
+  pub alike : AreAlike order (bins_of new)

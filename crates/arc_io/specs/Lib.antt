@@ -1,0 +1,6 @@
+pub mod Faults
+pub mod Bytes
+pub mod Entries
+pub mod Calls
+pub mod Stores
+pub mod System

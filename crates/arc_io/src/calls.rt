@@ -1,0 +1,45 @@
+//! Counts of calls and of faults, which stop at 2^64-1.
+ghost use Rattle.std.specs.Prelude.{◌≡◌, ◌↔◌, IsTrue};
+ghost use Rattle.arc_io.specs.Faults.{raised};
+ghost use Rattle.arc_io.specs.Calls.{IsListed, new_calls, next_call};
+
+use std::marker::Model;
+
+/// One more, up to 2^64-1.
+pub fn next_count(count: u64) -> u64
+    ensures { result ≡ raised count }
+{
+    count.saturating_add(1)
+}
+
+/// Counts calls from 1, and knows which of them are to fail.
+#[derive(Debug, Drop)]
+pub struct Calls {
+    failing: Vec<u64>,
+    made: u64,
+}
+
+impl Model for Calls {
+    ghost use Rattle.arc_io.specs.Calls.{CallsValue};
+
+    ghost Value = { CallsValue };
+
+    ghost view = { λ c. record { failing = c.failing.items; made = c.made } };
+}
+
+impl Calls {
+    pub fn new(failing: Vec<u64>) -> Self
+        ensures { result ≡ new_calls failing.items }
+    {
+        Calls { failing, made: 0 }
+    }
+
+    /// Counts a call, and tells whether it is to fail.
+    pub fn count(&mut self) -> bool
+        ensures listed { IsTrue result ↔ IsListed self.old }
+        ensures after { self.new ≡ next_call self.old }
+    {
+        self.made = next_count(self.made);
+        self.failing.as_slice().contains(&self.made)
+    }
+}

@@ -1,0 +1,17 @@
+-- Numbers in decimal digits.
+use Rattle.std.specs.Prelude.{ℕ, ◌+◌, ◌-◌, ◌*◌, ◌^◌, Bool, ◌&&◌, not, ◌==◌, nat_lt, if◌then◌else◌, List, [], ◌∷◌, length, Option, Some, None}
+use Rattle.std.specs.List.{list_all}
+use Rattle.std.specs.Char.{is_ascii_digit}
+
+-- the text is not empty and has digits alone
+abbrev pub are_digits : List ℕ → Bool
+are_digits bs = not (length bs == 0) && list_all is_ascii_digit bs
+
+-- what digits stand for: each counts by its place
+abbrev pub value_of : List ℕ → ℕ
+value_of [] = 0
+value_of (c ∷ cs) = (c - 48) * 10 ^ length cs + value_of cs
+
+-- the value of the digits, where it is below 2^64
+abbrev pub number_of : List ℕ → Option ℕ
+number_of bs = if are_digits bs && nat_lt (value_of bs) (2 ^ 64) then Some (value_of bs) else None

@@ -1,0 +1,4 @@
+pub mod ScanLemmas
+pub mod ScanSteps
+pub mod PrintLemmas
+pub mod RunLemmas

@@ -1,0 +1,41 @@
+use Rattle.std.proofs.Common.{List, ℕ, map, string_bytes}
+use Rattle.arc_program.specs.declared.status.Status.{Status}
+use Rattle.arc_program.specs.declared.status.Status.TheVariants.{Usage, ReadFault, WriteFault, BadCertificate, TooLarge, NoMemory}
+use Rattle.arc_program.proofs.RunLemmas.{not_reported, why_is_said, reported_not_early}
+use Rattle.arc_program.proofs.runs.run.Goals as goal
+
+pub returns-in-Ok-clause-usage : goal.returns-in-Ok-clause-usage
+returns-in-Ok-clause-usage g c = not_reported c.in-Ok.status Usage c.in-Ok.ensures.reported (λ n. n)
+
+pub returns-in-Ok-clause-read_fault : goal.returns-in-Ok-clause-read_fault
+returns-in-Ok-clause-read_fault g c = not_reported c.in-Ok.status ReadFault c.in-Ok.ensures.reported (λ n. n)
+
+pub returns-in-Ok-clause-asked : goal.returns-in-Ok-clause-asked
+returns-in-Ok-clause-asked g c = not_reported c.in-Ok.status ReadFault c.in-Ok.ensures.reported (λ n. n)
+
+pub returns-in-Ok-clause-write_fault : goal.returns-in-Ok-clause-write_fault
+returns-in-Ok-clause-write_fault g c = not_reported c.in-Ok.status WriteFault c.in-Ok.ensures.reported (λ n. n)
+
+pub returns-in-Ok-clause-no_certificate : goal.returns-in-Ok-clause-no_certificate
+returns-in-Ok-clause-no_certificate g c = not_reported c.in-Ok.status BadCertificate c.in-Ok.ensures.reported (λ n. n)
+
+pub returns-in-Ok-clause-no_graph : goal.returns-in-Ok-clause-no_graph
+returns-in-Ok-clause-no_graph g c = not_reported c.in-Ok.status TooLarge c.in-Ok.ensures.reported (λ n. n)
+
+pub returns-in-Ok-clause-says_words : goal.returns-in-Ok-clause-says_words
+returns-in-Ok-clause-says_words g c = not_reported c.in-Ok.status Usage c.in-Ok.ensures.reported (λ n. n)
+
+pub returns-in-Ok-clause-says_unread : goal.returns-in-Ok-clause-says_unread
+returns-in-Ok-clause-says_unread g c = not_reported c.in-Ok.status ReadFault c.in-Ok.ensures.reported (λ n. n)
+
+pub returns-in-Ok-clause-says_unwritten : goal.returns-in-Ok-clause-says_unwritten
+returns-in-Ok-clause-says_unwritten g c = not_reported c.in-Ok.status WriteFault c.in-Ok.ensures.reported (λ n. n)
+
+pub returns-in-Ok-clause-says_memory : goal.returns-in-Ok-clause-says_memory
+returns-in-Ok-clause-says_memory g c = not_reported c.in-Ok.status NoMemory c.in-Ok.ensures.reported (λ n. n)
+
+pub returns-in-Ok-clause-early : goal.returns-in-Ok-clause-early
+returns-in-Ok-clause-early g c = reported_not_early c.in-Ok.status c.in-Ok.ensures.reported
+
+pub returns-in-Err-clause-says_why : goal.returns-in-Err-clause-says_why
+returns-in-Err-clause-says_why g c = why_is_said (map string_bytes c.args.words.now) (g.H.Shelf.held c.args.shelf.now) (g.K.Sink.taken c.args.out.now) (g.K.Sink.taken c.perform.new.out) c.in-Err.refusal c.refuse.result _ _ _ _ c.in-Err.ensures.refused c.refuse.ensures.said

@@ -1,0 +1,10 @@
+pub mod Words
+pub mod Scan
+pub mod Loading
+pub mod Reports
+pub mod Printing
+pub mod Answers
+pub mod Statuses
+pub mod Refusals
+pub mod Runs
+pub mod Inputs

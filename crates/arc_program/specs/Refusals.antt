@@ -1,0 +1,80 @@
+-- What the program refuses, and the line that it says of it.
+use Rattle.std.specs.Prelude.{◌≡◌, ℕ, List, ◌++◌, codes, decimal, string_bytes}
+use Rattle.packing_laws.specs.declared.fault.ReadFault.{ReadFault}
+use Rattle.packing_laws.specs.declared.fault.ReadFault.TheVariants as read
+use Rattle.arc_program.specs.declared.words.WordFault.{WordFault}
+use Rattle.arc_program.specs.declared.words.WordFault.TheVariants as word
+use Rattle.arc_program.specs.declared.refusals.Refusal.{Refusal}
+use Rattle.arc_program.specs.declared.refusals.Refusal.TheVariants.{Words, Unread, Long, BadPlace, Unwritten, Memory}
+use Rattle.arc_program.specs.declared.status.Status.{Status}
+use Rattle.arc_program.specs.declared.status.Status.TheVariants.{Usage, BadInstance, ReadFault as ReadFaults, WriteFault, NoMemory}
+
+-- a line about something that has a name
+abbrev pub named_line : List ℕ → List ℕ → List ℕ
+named_line name said = codes "vpack: " ++ name ++ codes ": " ++ said ++ codes "\n"
+
+-- a line about a word, by its number
+abbrev pub word_line : ℕ → List ℕ → List ℕ
+word_line k said = codes "vpack: word " ++ decimal k ++ codes ": " ++ said ++ codes "\n"
+
+-- the line on a fault of the command line
+abbrev pub word_fault_line : WordFault → List ℕ
+word_fault_line word.NoCommand = codes "vpack: no command\n"
+word_fault_line (word.NoSuchCommand k) = word_line k (codes "no such command")
+word_fault_line (word.NoSuchOption k) = word_line k (codes "no such option")
+word_fault_line (word.Repeated k) = word_line k (codes "option repeated")
+word_fault_line (word.TooManyWords k) = word_line k (codes "one word too many")
+word_fault_line (word.BadValue k) = word_line k (codes "bad value")
+word_fault_line (word.BadName k) = word_line k (codes "bad name")
+word_fault_line word.TooFewWords = codes "vpack: too few words\n"
+word_fault_line word.Memory = codes "vpack: out of memory\n"
+
+-- a line about a token of an instance, by its number
+abbrev pub token_line : List ℕ → ℕ → List ℕ → List ℕ
+token_line name k said = codes "vpack: " ++ name ++ codes ": token " ++ decimal k ++ codes ": " ++ said ++ codes "\n"
+
+abbrev pub no_weight : ℕ → ℕ → List ℕ
+no_weight i f = codes "item " ++ decimal i ++ codes " form " ++ decimal f ++ codes " has no weight"
+
+-- the line on the first bad place of an instance
+abbrev pub place_line : List ℕ → ReadFault → List ℕ
+place_line name (read.Short k) = token_line name k (codes "missing")
+place_line name (read.NotNumber k) = token_line name k (codes "not a number")
+place_line name (read.Range k) = token_line name k (codes "out of range")
+place_line name (read.Total k) = token_line name k (codes "too many forms")
+place_line name (read.ZeroWeight k i f) = token_line name k (no_weight i f)
+place_line name (read.Extra k) = token_line name k (codes "one token too many")
+place_line name read.Memory = codes "vpack: out of memory\n"
+
+-- the lines on want of memory, and on a report that could not be written
+abbrev pub memory_line : List ℕ
+memory_line = codes "vpack: out of memory\n"
+
+abbrev pub output_line : List ℕ
+output_line = codes "vpack: cannot write output\n"
+
+-- the line on an instance that could not be read
+abbrev pub unread_line : List ℕ → List ℕ
+unread_line name = codes "vpack: cannot read " ++ name ++ codes "\n"
+
+-- the line on an instance that is too long
+abbrev pub long_line : List ℕ → List ℕ
+long_line name = named_line name (codes "too long")
+
+-- the line on a refusal
+abbrev pub refusal_line : Refusal → List ℕ
+refusal_line (Words fault) = word_fault_line fault
+refusal_line (Unread name) = unread_line (string_bytes name)
+refusal_line (Long name) = long_line (string_bytes name)
+refusal_line (BadPlace name fault) = place_line (string_bytes name) fault
+refusal_line Unwritten = output_line
+refusal_line Memory = memory_line
+
+-- the status on a refusal
+abbrev pub refusal_status : Refusal → Status
+refusal_status (Words fault) = Usage
+refusal_status (Unread name) = ReadFaults
+refusal_status (Long name) = BadInstance
+refusal_status (BadPlace name fault) = BadInstance
+refusal_status Unwritten = WriteFault
+refusal_status Memory = NoMemory

@@ -1,0 +1,59 @@
+-- The texts of reports. Each line ends with one line feed; numbers are decimal, without leading zeros.
+use Rattle.std.specs.Prelude.{◌≡◌, ℕ, ◌+◌, List, [], ◌∷◌, ◌++◌, length, codes, decimal}
+use Rattle.std.specs.List.{flat_map}
+use Rattle.packing_laws.specs.declared.packings.Count.{Count}
+use Rattle.packing_laws.specs.declared.packings.Bin.{Bin}
+use Rattle.packing_laws.specs.Instances.{InstanceValue, units_of}
+use Rattle.arc_program.specs.declared.answers.Answer.{Answer}
+use Rattle.arc_program.specs.declared.answers.Answer.TheVariants.{Optimal, Bracket, Unpacked, Infeasible}
+
+-- so many units of a form, as ` ITEM.FORM*COUNT`
+abbrev pub count_text : Count → List ℕ
+count_text n = codes " " ++ decimal n.item ++ codes "." ++ decimal n.form ++ codes "*" ++ decimal n.count
+
+-- what is in a bin
+abbrev pub counts_text : List Count → List ℕ
+counts_text counts = flat_map count_text counts
+
+-- bins that are alike, as `TIMES type T:` and what is in each
+abbrev pub bin_text : Bin → List ℕ
+bin_text b = decimal b.times ++ codes " type " ++ decimal b.bin_type ++ codes ":" ++ counts_text b.counts ++ codes "\n"
+
+-- a line for each bin
+abbrev pub bins_text : List Bin → List ℕ
+bins_text bins = flat_map bin_text bins
+
+-- the first line of an answer
+abbrev pub first_line : Answer → List ℕ
+first_line (Optimal cost bins) = codes "optimal " ++ decimal cost ++ codes "\n"
+first_line (Bracket lower cost bins) = codes "bracket " ++ decimal lower ++ codes " " ++ decimal cost ++ codes "\n"
+first_line (Unpacked lower) = codes "bracket " ++ decimal lower ++ codes " none\n"
+first_line Infeasible = codes "infeasible\n"
+
+-- the bins of an answer
+abbrev pub bins_in : Answer → List Bin
+bins_in (Optimal cost bins) = bins
+bins_in (Bracket lower cost bins) = bins
+bins_in (Unpacked lower) = []
+bins_in Infeasible = []
+
+-- the report of an answer
+abbrev pub answer_text : Answer → List ℕ
+answer_text answer = first_line answer ++ bins_text (bins_in answer)
+
+-- the first line of the report on graphs
+abbrev pub sizes_line : InstanceValue → List ℕ
+sizes_line I = codes "dims " ++ decimal I.dims ++ codes " types " ++ decimal (length I.types) ++ codes " items " ++ decimal (length I.items) ++ codes " units " ++ decimal (units_of I) ++ codes "\n"
+
+-- a line for the level graph of type t, with its nodes and arcs
+abbrev pub level_line : ℕ → ℕ × ℕ → List ℕ
+level_line t level = codes "type " ++ decimal t ++ codes " level " ++ decimal level.0 ++ codes " " ++ decimal level.1 ++ codes "\n"
+
+-- a line for each level graph, from type t on
+abbrev pub level_lines : ℕ → List (ℕ × ℕ) → List ℕ
+level_lines t [] = []
+level_lines t (level ∷ levels) = level_line t level ++ level_lines (t + 1) levels
+
+-- the report on the level graphs of an instance
+abbrev pub levels_text : InstanceValue → List (ℕ × ℕ) → List ℕ
+levels_text I levels = sizes_line I ++ level_lines 1 levels

@@ -1,0 +1,131 @@
+//! What the program refuses, and what it says then.
+
+ghost use Rattle.std.specs.Prelude.{◌≡◌, ◌++◌, IfOk, string_bytes, codes};
+ghost use Rattle.arc_program.specs.Refusals.{word_line, word_fault_line, token_line, place_line, refusal_line, refusal_status, named_line, no_weight};
+
+use crate::status::Status;
+use crate::words::WordFault;
+use packing_laws::ReadFault;
+use std::alloc::{AllocError, Global};
+
+/// Why a run ended without its report.
+#[derive(Debug, Drop)]
+pub enum Refusal {
+    /// The words ask for nothing.
+    Words { fault: WordFault },
+    /// The instance could not be read.
+    Unread { name: String },
+    /// The instance has more than 67,108,864 bytes.
+    Long { name: String },
+    /// The text is no instance: its first bad place.
+    BadPlace { name: String, fault: ReadFault },
+    /// The report could not be written.
+    Unwritten,
+    /// Want of memory.
+    Memory,
+}
+
+fn word_text(alloc: Global, word: u64, said: &str) -> Result<String, AllocError>
+    ensures { IfOk result (λ line. string_bytes line ≡ word_line word said.now) }
+{
+    format!(in alloc; "vpack: word {word}: {said}\n")
+}
+
+fn word_fault_text(alloc: Global, fault: WordFault) -> Result<String, AllocError>
+    ensures { IfOk result (λ line. string_bytes line ≡ word_fault_line fault) }
+{
+    match fault {
+        WordFault::NoCommand => String::from_str(alloc, "vpack: no command\n"),
+        WordFault::NoSuchCommand { word } => word_text(alloc, word, "no such command"),
+        WordFault::NoSuchOption { word } => word_text(alloc, word, "no such option"),
+        WordFault::Repeated { word } => word_text(alloc, word, "option repeated"),
+        WordFault::TooManyWords { word } => word_text(alloc, word, "one word too many"),
+        WordFault::BadValue { word } => word_text(alloc, word, "bad value"),
+        WordFault::BadName { word } => word_text(alloc, word, "bad name"),
+        WordFault::TooFewWords => String::from_str(alloc, "vpack: too few words\n"),
+        WordFault::Memory => String::from_str(alloc, "vpack: out of memory\n"),
+    }
+}
+
+fn token_text(alloc: Global, name: &str, index: u64, said: &str) -> Result<String, AllocError>
+    ensures { IfOk result (λ line. string_bytes line ≡ token_line name.now index said.now) }
+{
+    format!(in alloc; "vpack: {name}: token {index}: {said}\n")
+}
+
+fn no_weight_text(alloc: Global, item: u32, form: u32) -> Result<String, AllocError>
+    ensures { IfOk result (λ said. string_bytes said ≡ no_weight item form) }
+{
+    format!(in alloc; "item {item} form {form} has no weight")
+}
+
+fn zero_weight_text(
+    alloc: Global,
+    name: &str,
+    index: u64,
+    item: u32,
+    form: u32,
+) -> Result<String, AllocError>
+    ensures { IfOk result (λ line. string_bytes line ≡ token_line name.now index (no_weight item form)) }
+{
+    let said = no_weight_text(alloc, item, form)?;
+    token_text(alloc, name, index, said.as_str())
+}
+
+fn place_text(alloc: Global, name: &str, fault: ReadFault) -> Result<String, AllocError>
+    ensures { IfOk result (λ line. string_bytes line ≡ place_line name.now fault) }
+{
+    match fault {
+        ReadFault::Short { index } => token_text(alloc, name, index, "missing"),
+        ReadFault::NotNumber { index } => token_text(alloc, name, index, "not a number"),
+        ReadFault::Range { index } => token_text(alloc, name, index, "out of range"),
+        ReadFault::Total { index } => token_text(alloc, name, index, "too many forms"),
+        ReadFault::ZeroWeight { index, item, form } => {
+            zero_weight_text(alloc, name, index, item, form)
+        }
+        ReadFault::Extra { index } => token_text(alloc, name, index, "one token too many"),
+        ReadFault::Memory => String::from_str(alloc, "vpack: out of memory\n"),
+    }
+}
+
+fn unread_text(alloc: Global, name: &str) -> Result<String, AllocError>
+    ensures { IfOk result (λ line. string_bytes line ≡ codes "vpack: cannot read " ++ name.now ++ codes "\n") }
+{
+    format!(in alloc; "vpack: cannot read {name}\n")
+}
+
+fn long_text(alloc: Global, name: &str) -> Result<String, AllocError>
+    ensures { IfOk result (λ line. string_bytes line ≡ named_line name.now (codes "too long")) }
+{
+    format!(in alloc; "vpack: {name}: too long\n")
+}
+
+/// The line on a refusal.
+pub fn refusal_text(alloc: Global, refusal: &Refusal) -> Result<String, AllocError>
+    ensures { IfOk result (λ line. string_bytes line ≡ refusal_line refusal.now) }
+{
+    match refusal {
+        Refusal::Words { fault } => word_fault_text(alloc, *fault),
+        Refusal::Unread { name } => unread_text(alloc, name.as_str()),
+        Refusal::Long { name } => long_text(alloc, name.as_str()),
+        Refusal::BadPlace { name, fault } => place_text(alloc, name.as_str(), *fault),
+        Refusal::Unwritten => String::from_str(alloc, "vpack: cannot write output\n"),
+        Refusal::Memory => String::from_str(alloc, "vpack: out of memory\n"),
+    }
+}
+
+impl Refusal {
+    /// The status of a run that ends so.
+    pub fn status(&self) -> Status
+        ensures { result ≡ refusal_status self.now }
+    {
+        match self {
+            Refusal::Words { .. } => Status::Usage,
+            Refusal::Unread { .. } => Status::ReadFault,
+            Refusal::Long { .. } => Status::BadInstance,
+            Refusal::BadPlace { .. } => Status::BadInstance,
+            Refusal::Unwritten => Status::WriteFault,
+            Refusal::Memory => Status::NoMemory,
+        }
+    }
+}

@@ -1,0 +1,102 @@
+//! The texts of reports.
+
+ghost use Rattle.std.specs.Prelude.{◌≡◌, ◌++◌, OnOk, IfOk};
+ghost use Rattle.arc_program.specs.Reports.{count_text, counts_text, bin_text, bins_text, bins_in, first_line, answer_text};
+
+use crate::answers::Answer;
+use arc_num::{Memory, push_number};
+use packing_laws::{Bin, Count};
+use std::alloc::Global;
+
+fn push_bytes(out: &mut Vec<u8>, bytes: &[u8]) -> Result<(), Memory>
+    ensures { OnOk result (out.new.items ≡ out.old.items ++ bytes.now) }
+{
+    out.extend_from_slice(bytes)?;
+    Ok(())
+}
+
+fn push_count(out: &mut Vec<u8>, count: Count) -> Result<(), Memory>
+    ensures { OnOk result (out.new.items ≡ out.old.items ++ count_text count) }
+{
+    push_bytes(out, b" ")?;
+    push_number(out, u128::from(count.item))?;
+    push_bytes(out, b".")?;
+    push_number(out, u128::from(count.form))?;
+    push_bytes(out, b"*")?;
+    push_number(out, u128::from(count.count))
+}
+
+fn push_counts(out: &mut Vec<u8>, counts: &[Count]) -> Result<(), Memory>
+    ensures { OnOk result (out.new.items ≡ out.old.items ++ counts_text counts.now) }
+{
+    for count in counts {
+        push_count(out, *count)?;
+    }
+    Ok(())
+}
+
+fn push_bin(out: &mut Vec<u8>, bin: &Bin) -> Result<(), Memory>
+    ensures { OnOk result (out.new.items ≡ out.old.items ++ bin_text bin.now) }
+{
+    push_number(out, u128::from(bin.times))?;
+    push_bytes(out, b" type ")?;
+    push_number(out, u128::from(bin.bin_type))?;
+    push_bytes(out, b":")?;
+    push_counts(out, bin.counts.as_slice())?;
+    push_bytes(out, b"\n")
+}
+
+fn push_bins(out: &mut Vec<u8>, bins: &[Bin]) -> Result<(), Memory>
+    ensures { OnOk result (out.new.items ≡ out.old.items ++ bins_text bins.now) }
+{
+    for bin in bins {
+        push_bin(out, bin)?;
+    }
+    Ok(())
+}
+
+fn push_first_line(out: &mut Vec<u8>, answer: &Answer) -> Result<(), Memory>
+    ensures { OnOk result (out.new.items ≡ out.old.items ++ first_line answer.now) }
+{
+    match answer {
+        Answer::Optimal { cost, .. } => {
+            push_bytes(out, b"optimal ")?;
+            push_number(out, *cost)?;
+            push_bytes(out, b"\n")
+        }
+        Answer::Bracket { lower, cost, .. } => {
+            push_bytes(out, b"bracket ")?;
+            push_number(out, *lower)?;
+            push_bytes(out, b" ")?;
+            push_number(out, *cost)?;
+            push_bytes(out, b"\n")
+        }
+        Answer::Unpacked { lower } => {
+            push_bytes(out, b"bracket ")?;
+            push_number(out, *lower)?;
+            push_bytes(out, b" none\n")
+        }
+        Answer::Infeasible => push_bytes(out, b"infeasible\n"),
+    }
+}
+
+fn push_bins_of(out: &mut Vec<u8>, answer: &Answer) -> Result<(), Memory>
+    ensures { OnOk result (out.new.items ≡ out.old.items ++ bins_text (bins_in answer.now)) }
+{
+    match answer {
+        Answer::Optimal { packing, .. } => push_bins(out, packing.bins()),
+        Answer::Bracket { packing, .. } => push_bins(out, packing.bins()),
+        Answer::Unpacked { .. } => Ok(()),
+        Answer::Infeasible => Ok(()),
+    }
+}
+
+/// The report of `solve`.
+pub fn solve_text(alloc: Global, answer: &Answer) -> Result<Vec<u8>, Memory>
+    ensures { IfOk result (λ text. text.items ≡ answer_text answer.now) }
+{
+    let mut out = Vec::new(alloc);
+    push_first_line(&mut out, answer)?;
+    push_bins_of(&mut out, answer)?;
+    Ok(out)
+}

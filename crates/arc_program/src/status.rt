@@ -1,0 +1,43 @@
+ghost use Rattle.std.specs.Prelude.{◌≡◌};
+ghost use Rattle.arc_program.specs.Statuses.{code_of};
+
+/// How a run ended. `code` is the exit status of the program.
+#[derive(Clone, Copy, Debug, PartialEq, Eq)]
+pub enum Status {
+    /// The report was taken whole.
+    Done,
+    /// The report was taken whole: a bound below the cost of what was found.
+    Bracketed,
+    /// The words ask for nothing.
+    Usage,
+    /// The text is no instance, or too long for one.
+    BadInstance,
+    /// The text is no certificate that is accepted.
+    BadCertificate,
+    /// The instance could not be read.
+    ReadFault,
+    /// The report could not be written.
+    WriteFault,
+    /// Want of memory.
+    NoMemory,
+    /// The graphs have too many arcs.
+    TooLarge,
+}
+
+impl Status {
+    pub fn code(&self) -> u8
+        ensures { result ≡ code_of self.now }
+    {
+        match self {
+            Status::Done => 0,
+            Status::Bracketed => 1,
+            Status::Usage => 2,
+            Status::BadInstance => 3,
+            Status::BadCertificate => 4,
+            Status::ReadFault => 5,
+            Status::WriteFault => 6,
+            Status::NoMemory => 7,
+            Status::TooLarge => 8,
+        }
+    }
+}

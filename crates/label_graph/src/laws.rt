@@ -1,0 +1,13 @@
+//! What holds of all graphs. Each function is empty: a call brings its law in as a fact.
+
+ghost use Rattle.label_graph.specs.GraphLaws.{NodesLieOnPaths, LabelsBoundWeights};
+
+/// Each node lies on a path from the source to the target.
+pub fn nodes_lie_on_paths()
+    ensures { NodesLieOnPaths }
+{}
+
+/// Each path weighs at most the label at its end less the one at its start.
+pub fn labels_bound_weights()
+    ensures { LabelsBoundWeights }
+{}

@@ -1,0 +1,10 @@
+//! Graphs with labels of `N` weights at their nodes and pieces on their arcs.
+#![tactic(auto)]
+
+mod graph;
+mod laws;
+mod parts;
+
+pub use graph::Graph;
+pub use laws::{labels_bound_weights, nodes_lie_on_paths};
+pub use parts::{GraphArc, GraphFault, Mark, Piece};

@@ -1,0 +1,4 @@
+pub mod Repeats
+pub mod Rows
+pub mod Numerals
+pub mod Faults

@@ -1,0 +1,15 @@
+pub mod Members
+pub mod StateOrder
+pub mod Takes
+pub mod LayerSteps
+pub mod Weighings
+pub mod Reached
+pub mod SoFar
+pub mod Arcs
+pub mod Search
+pub mod Pushes
+pub mod GraphOf
+pub mod Counting
+pub mod Uniqueness
+pub mod Leading
+pub mod Choices

@@ -1,0 +1,18 @@
+//! What holds of all level graphs. Each function is empty: a call brings its law in as a fact.
+
+ghost use Rattle.level_graph.specs.LevelLaws.{PathsAreChoices, ChoicesHaveOnePath, LevelsAreOne};
+
+/// The content of each path from the source to the target is there and fits.
+pub fn paths_are_choices()
+    ensures { PathsAreChoices }
+{}
+
+/// Each content that is there and fits is that of exactly one path from the source to the target.
+pub fn choices_have_one_path()
+    ensures { ChoicesHaveOnePath }
+{}
+
+/// There is but one level graph of a list of pieces and a capacity.
+pub fn levels_are_one()
+    ensures { LevelsAreOne }
+{}

@@ -1,0 +1,5 @@
+use Rattle.mvp_reader.proofs.InstanceRows.{instance_sound}
+use Rattle.mvp_reader.proofs.read_mvp.Goals as goal
+
+pub into_instance-requires : goal.into_instance-requires
+into_instance-requires c = (instance_sound c.new-places.result c.in-Ok.parts c.in-Ok.ensures).0

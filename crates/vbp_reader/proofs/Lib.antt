@@ -1,0 +1,3 @@
+pub mod PlainRows
+pub mod PlainFaults
+pub mod PlainNumbers

@@ -1,0 +1,9 @@
+use Rattle.std.proofs.Common.{◌≡◌, ℕ, ◌<◌, ◌≤◌, length, get_or}
+use Rattle.weight_vec.proofs.weights.Weights.pad_from.Given as goal
+
+abbrev pub invariant-loop-d : goal.invariant-loop-d
+invariant-loop-d g l = record {
+  sized : length l.parts ≡ length l.initial.parts;
+  done : (k : ℕ) → k < l.d → get_or l.parts k 0 ≡ get_or l.part k 0;
+  rest : (k : ℕ) → l.d ≤ k → get_or l.parts k 0 ≡ 0;
+}
