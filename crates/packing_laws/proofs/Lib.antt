@@ -11,3 +11,4 @@ pub mod Merging
 pub mod TidyOrders
 pub mod Rearranged
 pub mod TidyParts
+pub mod SameContents

@@ -1,11 +1,18 @@
 -- The lines in order, merged, are the printed form.
-use Rattle.std.proofs.Common.{◌≡◌, ℕ, ◌<◌, ◌∙◌, List, sum_by, cond, sym, ap, arith}
-use Rattle.std.proofs.lemmas.List.Sorted.{sum_by-IsPermutation}
+use Rattle.std.proofs.Common.{◌≡◌, ◌∙◌, List, map, ap, subst}
 use Rattle.packing_laws.specs.declared.packings.Bin.{Bin}
 use Rattle.packing_laws.specs.declared.tidying.Line.{Line}
-use Rattle.packing_laws.specs.Printed.{is_filled, bin_cmp}
+use Rattle.packing_laws.specs.Printed.{bin_cmp}
+use Rattle.packing_laws.specs.Tidying.{merged, joined_bin, bin_of}
 use Rattle.packing_laws.proofs.TidyParts.{AreLines, tidied}
 use Rattle.packing_laws.proofs.tidying.tidy.Goals as goal
 
 pub returns-clause-tidied : goal.returns-clause-tidied
-returns-clause-tidied c = ?
+returns-clause-tidied c =
+    let old : List Bin = c.args.packing.now in
+    let lines : List Line = c.in_ok-lines.lines.items in
+    let sorted : List Line = c.sort_unstable.new.self.items in
+    let given : AreLines c.bins.result.now lines = record { tidy = c.in_ok-lines.ensures.tidy; alike = c.in_ok-lines.ensures.alike; times = c.in_ok-lines.ensures.times } in
+    let all : AreLines old lines = subst (λ (l : List Bin). AreLines l lines) c.bins.ensures given in
+    let is : c.new.result ≡ merged bin_cmp joined_bin (map bin_of sorted) = c.new.ensures ∙ c.in_ok-merged_lines.ensures ∙ ap (λ (l : List Line). merged bin_cmp joined_bin (map bin_of l)) c.as_slice.ensures.value in
+    tidied old lines sorted c.new.result all c.sort_unstable.ensures.permutation c.sort_unstable.ensures.sorted is
