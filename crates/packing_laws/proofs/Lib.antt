@@ -12,3 +12,4 @@ pub mod TidyOrders
 pub mod Rearranged
 pub mod TidyParts
 pub mod SameContents
+pub mod TidyLaws

@@ -1,6 +1,9 @@
-ghost use Rattle.std.specs.Prelude.{◌≡◌, ℕ, ◌+◌, ◌^◌, ◌<◌, ◌↔◌, ◌∷◌, ◌++◌, All, IsTrue, IsErr, IfOk, filter, map, nat_lt, sum_by, if◌then◌else◌};
+ghost use Rattle.std.specs.Prelude.{◌≡◌, ℕ, ◌+◌, ◌^◌, ◌<◌, ◌≤◌, ◌↔◌, ◌∷◌, ◌++◌, All, IsTrue, IsErr, IfOk, filter, map, nat_lt, sum_by, if◌then◌else◌};
 ghost use Rattle.std.specs.declared.cmp.Ordering.TheVariants.{Equal};
-ghost use Rattle.packing_laws.specs.Printed.{bins_of, filled_bins, units_in, is_filled, form_cmp, bin_cmp, SameContent, AreAlike, IsTidyContent, IsTidyBin, IsTidied, SumsFit};
+ghost use Rattle.packing_laws.specs.Printed.{bins_of, filled_bins, units_in, is_filled, form_cmp, bin_cmp, SameContent, AreAlike, IsTidyContent, IsTidyBin, IsTidied, IsWrittenPacking, SumsFit};
+ghost use Rattle.packing_laws.specs.Instances.{InstanceValue};
+ghost use Rattle.packing_laws.specs.Packings.{cost_of};
+ghost use Rattle.packing_laws.specs.Floors.{HasOneUnitEach};
 ghost use Rattle.packing_laws.specs.Tidying.{put_last, merged, joined_count, joined_bin, bin_of};
 
 use crate::packings::{Bin, Count, Counts, Packing};
@@ -19,6 +22,10 @@ struct Line {
 pub fn tidy(packing: &mut Packing) -> Result<(), Memory>
     requires { SumsFit packing.old }
     ensures tidied { IfOk result (λ _. IsTidied packing.old packing.new) }
+    ensures packing { IfOk result (λ _. (I : InstanceValue) → IsWrittenPacking I packing.old → IsWrittenPacking I packing.new) }
+    ensures cost { IfOk result (λ _. (I : InstanceValue) → cost_of I (bins_of packing.new) ≤ cost_of I (bins_of packing.old)) }
+    ensures one_each { IfOk result (λ _. HasOneUnitEach (bins_of packing.old) → HasOneUnitEach (bins_of packing.new)) }
+    ensures same_cost { IfOk result (λ _. HasOneUnitEach (bins_of packing.old) → (I : InstanceValue) → cost_of I (bins_of packing.new) ≡ cost_of I (bins_of packing.old)) }
     ensures unchanged { IsErr result → packing.new ≡ packing.old }
 {
     let alloc = packing.allocator();

@@ -5,6 +5,7 @@ use Rattle.packing_laws.specs.declared.tidying.Line.{Line}
 use Rattle.packing_laws.specs.Printed.{bin_cmp}
 use Rattle.packing_laws.specs.Tidying.{merged, joined_bin, bin_of}
 use Rattle.packing_laws.proofs.TidyParts.{AreLines, tidied}
+use Rattle.packing_laws.proofs.TidyLaws.{tidied-packing, tidied-cost, tidied-one_each, tidied-same_cost}
 use Rattle.packing_laws.proofs.tidying.tidy.Goals as goal
 
 pub returns-clause-tidied : goal.returns-clause-tidied
@@ -16,3 +17,15 @@ returns-clause-tidied c =
     let all : AreLines old lines = subst (λ (l : List Bin). AreLines l lines) c.bins.ensures given in
     let is : c.new.result ≡ merged bin_cmp joined_bin (map bin_of sorted) = c.new.ensures ∙ c.in_ok-merged_lines.ensures ∙ ap (λ (l : List Line). merged bin_cmp joined_bin (map bin_of l)) c.as_slice.ensures.value in
     tidied old lines sorted c.new.result all c.sort_unstable.ensures.permutation c.sort_unstable.ensures.sorted is
+
+pub returns-clause-packing : goal.returns-clause-packing
+returns-clause-packing c = tidied-packing c.args.packing.now c.new.result (returns-clause-tidied c)
+
+pub returns-clause-cost : goal.returns-clause-cost
+returns-clause-cost c = tidied-cost c.args.packing.now c.new.result (returns-clause-tidied c)
+
+pub returns-clause-one_each : goal.returns-clause-one_each
+returns-clause-one_each c = tidied-one_each c.args.packing.now c.new.result (returns-clause-tidied c)
+
+pub returns-clause-same_cost : goal.returns-clause-same_cost
+returns-clause-same_cost c = tidied-same_cost c.args.packing.now c.new.result (returns-clause-tidied c)
