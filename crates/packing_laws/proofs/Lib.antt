@@ -7,3 +7,9 @@ pub mod BestType
 pub mod PackedItems
 pub mod OneUnitBins
 pub mod SingleLaw
+pub mod Merging
+pub mod TidyOrders
+pub mod Rearranged
+pub mod TidyParts
+pub mod SameContents
+pub mod TidyLaws

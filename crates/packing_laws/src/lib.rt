@@ -12,6 +12,7 @@ mod numbers;
 mod packings;
 mod places;
 mod single;
+mod tidying;
 #[cfg(test)]
 mod tests;
 
@@ -28,3 +29,4 @@ pub use numbers::{Numbers, Vectors};
 pub use packings::{Bin, Count, Counts, Packing};
 pub use places::homeless_item;
 pub use single::single_cost;
+pub use tidying::tidy;
