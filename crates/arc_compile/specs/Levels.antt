@@ -1,5 +1,5 @@
 -- The level graph of a type of bins.
-use Rattle.std.specs.Prelude.{◌≡◌, ℕ, ◌+◌, ◌-◌, ◌<◌, ◌≤◌, List, length, nat_le, if◌then◌else◌, slice_index_or}
+use Rattle.std.specs.Prelude.{◌≡◌, ℕ, ◌+◌, ◌-◌, ◌<◌, ◌≤◌, List, length, nat_le, if◌then◌else◌, Some, slice_get}
 use Rattle.packing_laws.specs.Instances.{InstanceValue, IsAmong, type_at}
 use Rattle.label_graph.specs.declared.parts.Piece.{Piece}
 use Rattle.level_graph.specs.Levels.{IsLevelCount}
@@ -22,4 +22,4 @@ IsLevelSize I t nodes arcs = HasLevelSize (width_of I.dims) I t nodes arcs
 -- the nodes and arcs of the level graph of each type
 pub record AreLevelSizes (I : InstanceValue) (levels : List (ℕ × ℕ)) : Type 0 where
   pub count : length levels ≡ length I.types
-  pub each : (t : ℕ) → IsAmong t (length I.types) → (level : ℕ × ℕ) → level ≡ slice_index_or levels (t - 1) level → IsLevelSize I t level.0 level.1
+  pub each : (t : ℕ) (level : ℕ × ℕ) → slice_get levels t ≡ Some level → IsLevelSize I (t + 1) level.0 level.1

@@ -4,6 +4,7 @@ use Rattle.arc_num.specs.declared.TheConstants.{MAX_INSTANCE}
 use Rattle.arc_io.specs.declared.IoFault.{IoFault}
 use Rattle.arc_io.specs.Faults.{Rose, CountsFault}
 use Rattle.arc_io.specs.Bytes.{Told, Files, Appends}
+use Rattle.arc_compile.specs.Levels.{AreLevelSizes}
 use Rattle.packing_laws.specs.declared.fault.ReadFault.{ReadFault}
 use Rattle.packing_laws.specs.Instances.{InstanceValue}
 use Rattle.packing_laws.specs.Layouts as layouts
@@ -16,7 +17,7 @@ use Rattle.arc_program.specs.declared.refusals.Refusal.{Refusal}
 use Rattle.arc_program.specs.declared.refusals.Refusal.TheVariants.{Words, Unread, Long, BadPlace, Unwritten, Memory}
 use Rattle.arc_program.specs.Words.{Word, Request, Compiles, Solves, words_of}
 use Rattle.arc_program.specs.Answers.{IsAnswer}
-use Rattle.arc_program.specs.Reports.{answer_text}
+use Rattle.arc_program.specs.Reports.{answer_text, levels_text}
 use Rattle.arc_program.specs.Refusals.{refusal_line, refusal_status, memory_line, long_line, place_line}
 use Rattle.arc_program.specs.Printing.{TakesAll, TakesPrefix}
 
@@ -57,9 +58,13 @@ answer_status (Bracket lower cost bins) = Bracketed
 answer_status (Unpacked lower) = Bracketed
 answer_status Infeasible = Done
 
+-- the text is the report on the level graphs of the instance
+abbrev pub IsLevelReport : InstanceValue → Status → List ℕ → Type 0
+IsLevelReport I status text = (levels : List (ℕ × ℕ)) × AreLevelSizes I levels × (text ≡ levels_text I levels) × (status ≡ Done)
+
 -- the text is the report that is owed for the instance, and this is the status
 abbrev pub IsReport : Request → InstanceValue → Status → List ℕ → Type 0
-IsReport (Compiles name mvp) I status text = ⊥
+IsReport (Compiles name mvp) I status text = IsLevelReport I status text
 IsReport (Solves name mvp) I status text = (answer : Answer) × IsAnswer I answer × (text ≡ answer_text answer) × (status ≡ answer_status answer)
 
 -- of the bytes under the name that is asked about, where they are told: they spell an instance, and P holds of a report on it

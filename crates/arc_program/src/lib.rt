@@ -16,7 +16,7 @@ mod words;
 
 pub use answers::Answer;
 pub use refusals::Refusal;
-pub use reports::solve_text;
+pub use reports::{compile_text, solve_text};
 pub use runs::run;
 pub use status::Status;
-pub use words::{Command, WordFault};
+pub use words::{Command, WordFault, read_words};

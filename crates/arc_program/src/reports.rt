@@ -1,11 +1,11 @@
 //! The texts of reports.
 
 ghost use Rattle.std.specs.Prelude.{◌≡◌, ◌++◌, OnOk, IfOk};
-ghost use Rattle.arc_program.specs.Reports.{count_text, counts_text, bin_text, bins_text, bins_in, first_line, answer_text};
+ghost use Rattle.arc_program.specs.Reports.{count_text, counts_text, bin_text, bins_text, bins_in, first_line, answer_text, sizes_line, level_line, level_lines, levels_text};
 
 use crate::answers::Answer;
 use arc_num::{Memory, push_number};
-use packing_laws::{Bin, Count};
+use packing_laws::{Bin, Count, Instance};
 use std::alloc::Global;
 
 fn push_bytes(out: &mut Vec<u8>, bytes: &[u8]) -> Result<(), Memory>
@@ -98,5 +98,54 @@ pub fn solve_text(alloc: Global, answer: &Answer) -> Result<Vec<u8>, Memory>
     let mut out = Vec::new(alloc);
     push_first_line(&mut out, answer)?;
     push_bins_of(&mut out, answer)?;
+    Ok(out)
+}
+
+fn push_sizes_line(out: &mut Vec<u8>, instance: &Instance) -> Result<(), Memory>
+    ensures { OnOk result (out.new.items ≡ out.old.items ++ sizes_line instance.now) }
+{
+    push_bytes(out, b"dims ")?;
+    push_number(out, u128::from(instance.dims()))?;
+    push_bytes(out, b" types ")?;
+    push_number(out, u128::from(instance.type_count()))?;
+    push_bytes(out, b" items ")?;
+    push_number(out, u128::from(instance.item_count()))?;
+    push_bytes(out, b" units ")?;
+    push_number(out, u128::from(instance.units()))?;
+    push_bytes(out, b"\n")
+}
+
+fn push_level_line(out: &mut Vec<u8>, t: usize, level: (u128, u128)) -> Result<(), Memory>
+    ensures { OnOk result (out.new.items ≡ out.old.items ++ level_line t level) }
+{
+    push_bytes(out, b"type ")?;
+    push_number(out, t as u128)?;
+    push_bytes(out, b" level ")?;
+    push_number(out, level.0)?;
+    push_bytes(out, b" ")?;
+    push_number(out, level.1)?;
+    push_bytes(out, b"\n")
+}
+
+fn push_level_lines(out: &mut Vec<u8>, levels: &[(u128, u128)]) -> Result<(), Memory>
+    ensures { OnOk result (out.new.items ≡ out.old.items ++ level_lines 1 levels.now) }
+{
+    for (t, level) in levels.iter().enumerate() {
+        push_level_line(out, t + 1, *level)?;
+    }
+    Ok(())
+}
+
+/// The report of `compile`, with the nodes and arcs of each type's level graph.
+pub fn compile_text(
+    alloc: Global,
+    instance: &Instance,
+    levels: &[(u128, u128)],
+) -> Result<Vec<u8>, Memory>
+    ensures { IfOk result (λ text. text.items ≡ levels_text instance.now levels.now) }
+{
+    let mut out = Vec::new(alloc);
+    push_sizes_line(&mut out, instance)?;
+    push_level_lines(&mut out, levels)?;
     Ok(out)
 }

@@ -1,22 +1,25 @@
 //! The work of each command.
 
 ghost use Rattle.std.specs.Prelude.{◌≡◌, ◌↔◌, IfOk, IfSome, IsSome};
+ghost use Rattle.arc_compile.specs.Levels.{AreLevelSizes};
 ghost use Rattle.packing_laws.specs.Packings.{cost_of};
 ghost use Rattle.packing_laws.specs.Printed.{bins_of};
 ghost use Rattle.packing_laws.specs.Floors.{HasSingle};
 ghost use Rattle.arc_program.specs.Words.{request_of};
 ghost use Rattle.arc_program.specs.Answers.{IsAnswer, IsUnitPacking};
 ghost use Rattle.arc_program.specs.Reports.{answer_text};
-ghost use Rattle.arc_program.specs.Runs.{IsReport, IsReported, answer_status};
+ghost use Rattle.arc_program.specs.Runs.{IsReport, IsLevelReport, IsReported, answer_status};
 
 use crate::answers::Answer;
-use crate::reports::solve_text;
+use crate::reports::{compile_text, solve_text};
 use crate::status::Status;
 use crate::text::Text;
 use crate::words::Command;
+use arc_compile::level_size;
 use arc_num::Memory;
 use packing_laws::{
     Instance, Packing, cost, homeless_item, material_bound, material_is_floor, no_place_no_packing,
+    tidy, units_apart,
 };
 use std::alloc::Global;
 
@@ -43,11 +46,16 @@ impl Answer {
 }
 
 /// A packing in the printed form with one unit to a bin, at the single cost, where that exists.
-fn unit_packing(_alloc: Global, instance: &Instance) -> Result<Option<Packing>, Memory>
+fn unit_packing(alloc: Global, instance: &Instance) -> Result<Option<Packing>, Memory>
     ensures exists { IfOk result (λ found. IsSome found ↔ HasSingle instance.now) }
     ensures packing { IfOk result (λ found. IfSome found (λ packing. IsUnitPacking instance.now (cost_of instance.now (bins_of packing)) packing)) }
 {
-    Err(Memory)
+    let Some(mut packing) = units_apart(alloc, instance)? else {
+        return Ok(None);
+    };
+    instance.known();
+    tidy(&mut packing)?;
+    Ok(Some(packing))
 }
 
 /// The answer with a packing at the single cost.
@@ -97,10 +105,27 @@ fn solve(alloc: Global, instance: &Instance) -> Result<Report, Memory>
     Ok(Report { text, status })
 }
 
-fn compile(_alloc: Global, _instance: &Instance) -> Result<Report, Memory>
-    ensures { IfOk result (λ _. ⊥) }
+/// The nodes and arcs of the level graph of each type.
+fn level_sizes(alloc: Global, instance: &Instance) -> Result<Vec<(u128, u128)>, Memory>
+    ensures { IfOk result (λ levels. AreLevelSizes instance.now levels.items) }
 {
-    Err(Memory)
+    let mut levels = Vec::new(alloc);
+    for t in 0..instance.type_count() {
+        levels.push(level_size(alloc, instance, t + 1)?)?;
+    }
+    Ok(levels)
+}
+
+fn compile(alloc: Global, instance: &Instance) -> Result<Report, Memory>
+    ensures reported { IfOk result (λ report. IsReported report.status) }
+    ensures text { IfOk result (λ report. IsLevelReport instance.now report.status report.text) }
+{
+    let levels = level_sizes(alloc, instance)?;
+    let text = Text::new(compile_text(alloc, instance, levels.as_slice())?);
+    Ok(Report {
+        text,
+        status: Status::Done,
+    })
 }
 
 /// Does a command's own work.
