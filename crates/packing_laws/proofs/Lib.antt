@@ -7,3 +7,4 @@ pub mod BestType
 pub mod PackedItems
 pub mod OneUnitBins
 pub mod SingleLaw
+pub mod WrittenPackings

@@ -2,6 +2,7 @@
 #![tactic(auto)]
 
 mod apart;
+mod checks;
 mod costs;
 mod fault;
 mod floors;
@@ -16,6 +17,7 @@ mod single;
 mod tests;
 
 pub use apart::units_apart;
+pub use checks::{fits, is_packing};
 pub use costs::cost;
 pub use fault::ReadFault;
 pub use floors::material_bound;
