@@ -8,3 +8,6 @@ mod parts;
 pub use graph::Graph;
 pub use laws::{labels_bound_weights, nodes_lie_on_paths};
 pub use parts::{GraphArc, GraphFault, Mark, Piece};
+
+#[cfg(test)]
+mod tests;

@@ -1,5 +1,5 @@
 -- Which faults a part of a text can have.
-use Rattle.std.proofs.Common.{zero, suc, ◌≡◌, ℕ, ◌+◌, Bool, true, false, cond, List, [], ◌∷◌, ◌++◌, Option, Some, None, Result, Ok, Err, refl, sym, ap, ◌∙◌, subst, arith}
+use Rattle.std.proofs.Common.{zero, suc, ◌≡◌, ℕ, ◌+◌, Bool, true, false, cond, List, [], ◌∷◌, ◌++◌, Some, None, Result, Ok, Err, refl, subst}
 use Rattle.std.specs.Prelude.{codes, not, nat_le, ◌&&◌, ◌==◌}
 use Rattle.std.specs.Str.{bytes_eq}
 use Rattle.std.specs.List.{list_all}
@@ -10,19 +10,16 @@ use Rattle.packing_laws.specs.declared.fault.ReadFault.TheVariants.{Short, NotNu
 use Rattle.packing_laws.specs.Places.{Place, ◌>>=◌, token_in, value_in, limit_in, next_number, next_limit, several, component_behind, next_vector, next_form, end_in, end_at}
 
 module _ (P : ReadFault → Type 0) where
-
   -- every fault is such a fault
   abbrev pub FaultsAre : {A : Type 0} → Result A ReadFault → Type 0
   FaultsAre r = (e : ReadFault) → r ≡ Err e → P e
 
   module _ {A B : Type 0} where
-
     pub faults-then : (r : Result A ReadFault) (f : A → Result B ReadFault) → FaultsAre r → ((x : A) → FaultsAre (f x)) → FaultsAre (r >>= f)
     faults-then (Ok x) f h k = k x
     faults-then (Err d) f h k = λ e same. let e_is : d ≡ e = cc in subst P e_is (h d refl)
 
   module _ {A : Type 0} where
-
     pub faults-none : (x : A) → FaultsAre {A = A} (Ok x)
     faults-none x e same = absurd (cc)
 
@@ -42,7 +39,6 @@ module _ (P : ReadFault → Type 0) where
     faults-several each h (suc n) xs p = faults-then (each xs p) (λ (x : A × Place). several n each (xs ++ x.0 ∷ []) x.1) (h xs p) (λ x. faults-several each h n (xs ++ x.0 ∷ []) x.1)
 
   module _ (short : (k : ℕ) → P (Short k)) (not_number : (k : ℕ) → P (NotNumber k)) (range : (k : ℕ) → P (Range k)) where
-
     faults-value : (low high k : ℕ) (t : List ℕ) → FaultsAre (value_in low high k t)
     faults-value low high k t =
         faults-if (not (are_digits t)) (NotNumber k) (cond (nat_le low (value_of t) && nat_le (value_of t) high) (Ok (value_of t)) (Err (Range k))) (not_number k)
@@ -54,7 +50,6 @@ module _ (P : ReadFault → Type 0) where
         (faults-then (value_in 0 MAX_VALUE k t) (λ (v : ℕ). Ok (Some v)) (faults-value 0 MAX_VALUE k t) (λ v. faults-none (Some v)))
 
     module _ {A : Type 0} (meaning : ℕ → List ℕ → Result A ReadFault) (h : (k : ℕ) (t : List ℕ) → FaultsAre (meaning k t)) where
-
       faults-token : (count : ℕ) (ts : List (List ℕ)) → FaultsAre (token_in meaning count ts)
       faults-token count [] = faults-one (Short (count + 1)) (short (count + 1))
       faults-token count (t ∷ ts) = faults-then (meaning (count + 1) t) (λ (x : A). Ok (x, record { count = count + 1; left = ts })) (h (count + 1) t) (λ x. faults-none (x, record { count = count + 1; left = ts }))

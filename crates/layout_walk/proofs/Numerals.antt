@@ -1,20 +1,20 @@
 -- A number, a limit, a vector and a form are read exactly where their tokens spell them.
-use Rattle.std.proofs.Common.{zero, suc, ◌≡◌, ℕ, ◌+◌, ◌-◌, ◌<◌, ◌≤◌, Bool, true, false, cond, List, [], ◌∷◌, ◌++◌, length, Option, Some, None, Result, Ok, Err, refl, sym, ap, ◌∙◌, subst, append_assoc, arith}
-use Rattle.std.specs.Prelude.{codes, not, nat_le, ◌&&◌, ◌==◌, Any, if◌then◌else◌}
+use Rattle.std.proofs.Common.{zero, suc, ◌≡◌, ℕ, ◌<◌, ◌≤◌, Bool, true, false, cond, List, [], ◌∷◌, length, Option, Some, None, Result, Ok, Err, refl, sym, ap, ◌∙◌, subst, arith}
+use Rattle.std.specs.Prelude.{codes, ◌==◌, Any}
 use Rattle.std.specs.Str.{bytes_eq}
-use Rattle.std.specs.List.{All, flat_map, list_all}
+use Rattle.std.specs.List.{flat_map, list_all}
 use Rattle.std.specs.Cmp.Lexicographic.{same_text}
 use Rattle.std.proofs.lemmas.List.Elements.{All-weaker}
 use Rattle.std.proofs.lemmas.List.Concat.{flat_map_single}
 use Rattle.std.proofs.lemmas.List.Folds.{list_all_at}
 use Rattle.arc_num.specs.declared.TheConstants.{MAX_VALUE}
-use Rattle.arc_num.specs.Decimals.{are_digits, value_of}
+use Rattle.arc_num.specs.Decimals.{are_digits}
 use Rattle.packing_laws.specs.declared.fault.ReadFault.{ReadFault}
-use Rattle.packing_laws.specs.declared.fault.ReadFault.TheVariants.{NotNumber, Range, ZeroWeight}
+use Rattle.packing_laws.specs.declared.fault.ReadFault.TheVariants.{ZeroWeight}
 use Rattle.packing_laws.specs.Instances.{IsLimit, IsVector, IsForm}
-use Rattle.packing_laws.specs.Places.{Place, ◌>>=◌, token_in, value_in, limit_in, next_number, next_limit, several, component_behind, next_vector, next_form}
+use Rattle.packing_laws.specs.Places.{Place, ◌>>=◌, value_in, limit_in, next_number, next_limit, component_behind, next_vector, next_form}
 use Rattle.packing_laws.specs.Layouts.{SpellsField, vector_row}
-use Rattle.layout_walk.proofs.Rows.{Passes, IsExact, EachLawful, token-exact, several-exact, exact-same, each-All, All-each, chosen, read_both, both_read}
+use Rattle.layout_walk.proofs.Rows.{IsExact, EachLawful, token-exact, several-exact, exact-same, each-All, All-each, chosen, read_both, both_read}
 
 value_means : (low high k : ℕ) (t : List ℕ) (x : ℕ) → value_in low high k t ≡ Ok x → ((low ≤ x) × (x ≤ high)) × SpellsField t (Some x)
 value_means low high k t x h = grind arith
@@ -93,13 +93,14 @@ weighing v a = list_all_at (λ (x : ℕ). x == 0) v a.0 a.1 a.2 (subst (λ (y : 
 pub form-exact : (n item form : ℕ) → IsExact (next_form n item form) vector_row (IsForm n)
 unfolding next_form
 form-exact n item form = record {
-    sound = λ p x q h.
+  sound = λ p x q h.
       let both = read_both (next_vector n p) (λ (v : List ℕ × Place). cond (list_all (λ x. x == 0) v.0) (Err (ZeroWeight v.1.count item form)) (Ok v)) (x, q) h in
       let v = both.0 in
       let ok = chosen (list_all (λ x. x == 0) v.0) (ZeroWeight v.1.count item form) v (x, q) both.1.1 in
       let vector = (vector-exact n).sound p x q (both.1.0 ∙ ap (λ (z : List ℕ × Place). Ok z) ok.1) in
       let weight : list_all (λ x. x == 0) x ≡ false = subst (λ (z : List ℕ × Place). list_all (λ x. x == 0) z.0 ≡ false) ok.1 ok.0 in
       (record { vector = vector.0; weighs = weighs x weight }, vector.1);
-    complete = λ p x q l h.
+  complete = λ p x q l h.
       let vector = (vector-exact n).complete p x q l.vector h in
-      both_read (next_vector n p) (λ (v : List ℕ × Place). cond (list_all (λ x. x == 0) v.0) (Err (ZeroWeight v.1.count item form)) (Ok v)) (x, q) (x, q) vector (rw (weighing x l.weighs) refl) }
+      both_read (next_vector n p) (λ (v : List ℕ × Place). cond (list_all (λ x. x == 0) v.0) (Err (ZeroWeight v.1.count item form)) (Ok v)) (x, q) (x, q) vector (rw (weighing x l.weighs) refl);
+}

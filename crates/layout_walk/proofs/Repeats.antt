@@ -1,11 +1,10 @@
 -- Values that are read one after the other, in a loop.
-use Rattle.std.proofs.Common.{zero, suc, ◌≡◌, ℕ, ◌+◌, ◌-◌, ◌<◌, ◌≤◌, List, [], ◌∷◌, ◌++◌, Result, Ok, Err, refl, sym, ap, ◌∙◌, subst, ◌⊎◌, inl, inr, arith}
+use Rattle.std.proofs.Common.{suc, ◌≡◌, ℕ, ◌+◌, ◌-◌, ◌<◌, ◌≤◌, List, [], ◌∷◌, ◌++◌, Result, Ok, Err, refl, sym, ◌∙◌, ◌⊎◌, inl, inr, arith}
 use Rattle.packing_laws.specs.declared.fault.ReadFault.{ReadFault}
 use Rattle.packing_laws.specs.declared.fault.ReadFault.TheVariants.{Memory}
-use Rattle.packing_laws.specs.Places.{Place, ◌>>=◌, several}
+use Rattle.packing_laws.specs.Places.{Place, several}
 
 module _ {A : Type 0} (each : List A → Place → Result (A × Place) ReadFault) where
-
   several_first : (n : ℕ) (xs : List A) (p : Place) (x : A) (q : Place) → each xs p ≡ Ok (x, q) → several (suc n) each xs p ≡ several n each (xs ++ x ∷ []) q
   several_first n xs p x q e = rw e refl
 

@@ -1,9 +1,8 @@
 -- A part of a text is read exactly where its tokens spell its row of fields.
-use Rattle.std.proofs.Common.{zero, suc, ◌≡◌, ℕ, ◌+◌, ◌-◌, ◌<◌, ◌≤◌, Bool, true, false, cond, List, [], ◌∷◌, ◌++◌, length, Option, Some, None, Result, Ok, Err, refl, sym, ap, ◌∙◌, subst, append_assoc, append-nil, arith}
+use Rattle.std.proofs.Common.{zero, suc, ◌≡◌, ℕ, ◌+◌, Bool, true, false, cond, List, [], ◌∷◌, ◌++◌, length, Option, Result, Ok, Err, refl, sym, ap, ◌∙◌, subst, append_assoc, append-nil, arith}
 use Rattle.std.specs.List.{All, flat_map}
 use Rattle.std.proofs.lemmas.List.Elements.{All-nil, All-cons, All-head, All-tail}
 use Rattle.packing_laws.specs.declared.fault.ReadFault.{ReadFault}
-use Rattle.packing_laws.specs.declared.fault.ReadFault.TheVariants.{Short}
 use Rattle.packing_laws.specs.Places.{Place, ◌>>=◌, token_in, several, end_in}
 use Rattle.packing_laws.specs.Layouts.{SpellsField, Spells}
 
@@ -52,7 +51,6 @@ pub record IsExact {A : Type 0} (read : Place → Result (A × Place) ReadFault)
   pub complete : (p : Place) (x : A) (q : Place) → Lawful x → Passes p (row x) q → read p ≡ Ok (x, q)
 
 module _ {A B : Type 0} where
-
   -- what was read first, and what was read next
   pub read_both : (r : Result A ReadFault) (f : A → Result B ReadFault) (y : B) → (r >>= f) ≡ Ok y → (x : A) × ((r ≡ Ok x) × (f x ≡ Ok y))
   read_both (Ok x) f y h = (x, (refl, h))
@@ -62,7 +60,6 @@ module _ {A B : Type 0} where
   both_read r f x y h k = rw h k
 
 module _ {A : Type 0} where
-
   -- equal answers hold equal values and places
   pub same_value : (r : Result (A × Place) ReadFault) (x y : A) (p q : Place) → r ≡ Ok (x, p) → r ≡ Ok (y, q) → x ≡ y
   same_value r x y p q h k = let e : (x, p) ≡ (y, q) = cc in ap (λ (z : A × Place). z.0) e
@@ -72,9 +69,8 @@ module _ {A : Type 0} where
 
 -- one token: what it stands for is one field
 module _ {A : Type 0} (meaning : ℕ → List ℕ → Result A ReadFault) (field : A → Option ℕ) (Lawful : A → Type 0)
-  (means : (k : ℕ) (t : List ℕ) (x : A) → meaning k t ≡ Ok x → Lawful x × SpellsField t (field x))
-  (meant : (k : ℕ) (t : List ℕ) (x : A) → Lawful x → SpellsField t (field x) → meaning k t ≡ Ok x) where
-
+    (means : (k : ℕ) (t : List ℕ) (x : A) → meaning k t ≡ Ok x → Lawful x × SpellsField t (field x))
+    (meant : (k : ℕ) (t : List ℕ) (x : A) → Lawful x → SpellsField t (field x) → meaning k t ≡ Ok x) where
   token_sound : (count : ℕ) (ts : List (List ℕ)) (x : A) (q : Place) → token_in meaning count ts ≡ Ok (x, q) → Lawful x × Passes (record { count = count; left = ts }) (field x ∷ []) q
   token_sound count [] x q h = absurd (cc)
   token_sound count (t ∷ ts) x q h =
@@ -92,7 +88,8 @@ module _ {A : Type 0} (meaning : ℕ → List ℕ → Result A ReadFault) (field
   pub token-exact : IsExact (λ (p : Place). token_in meaning p.count p.left) (λ (x : A). field x ∷ []) Lawful
   token-exact = record {
     sound = λ p x q h. token_sound p.count p.left x q h;
-    complete = λ p x q l h. token_complete p.count p.left x q l h }
+    complete = λ p x q l h. token_complete p.count p.left x q l h;
+  }
 
 -- several values
 abbrev pub EachLawful : {A : Type 0} → (List A → A → Type 0) → List A → List A → Type 0
@@ -100,8 +97,7 @@ EachLawful Lawful xs [] = Unit {0}
 EachLawful Lawful xs (y ∷ ys) = Lawful xs y × EachLawful Lawful (xs ++ y ∷ []) ys
 
 module _ {A : Type 0} (each : List A → Place → Result (A × Place) ReadFault) (row : A → List (Option ℕ)) (Lawful : List A → A → Type 0)
-  (exact : (xs : List A) → IsExact (each xs) row (Lawful xs)) where
-
+    (exact : (xs : List A) → IsExact (each xs) row (Lawful xs)) where
   -- what is read behind the values that are there
   abbrev Added : ℕ → List A → Place → List A → Place → Type 0
   Added n xs p zs q = (ys : List A) × ((zs ≡ xs ++ ys) × ((length ys ≡ n) × (EachLawful Lawful xs ys × Passes p (flat_map row ys) q)))
@@ -131,17 +127,18 @@ module _ {A : Type 0} (each : List A → Place → Result (A × Place) ReadFault
   pub several-exact : (n : ℕ) → IsExact (several n each []) (flat_map row) (λ (ys : List A). (length ys ≡ n) × EachLawful Lawful [] ys)
   several-exact n = record {
     sound = λ p zs q h.
-      let added = several_sound n [] p zs q h in
-      subst (λ (z : List A). ((length z ≡ n) × EachLawful Lawful [] z) × Passes p (flat_map row z) q) (sym added.1.0) ((added.1.1.0, added.1.1.1.0), added.1.1.1.1);
-    complete = λ p ys q l h. several_complete n [] p ys q l.0 l.1 h }
+        let added = several_sound n [] p zs q h in
+        subst (λ (z : List A). ((length z ≡ n) × EachLawful Lawful [] z) × Passes p (flat_map row z) q) (sym added.1.0) ((added.1.1.0, added.1.1.1.0), added.1.1.1.1);
+    complete = λ p ys q l h. several_complete n [] p ys q l.0 l.1 h;
+  }
 
 module _ {A : Type 0} where
-
   -- the same part, described in other words
   pub exact-same : (read : Place → Result (A × Place) ReadFault) (row other_row : A → List (Option ℕ)) (Lawful Other : A → Type 0) → ((x : A) → row x ≡ other_row x) → ((x : A) → Lawful x → Other x) → ((x : A) → Other x → Lawful x) → IsExact read row Lawful → IsExact read other_row Other
   exact-same read row other_row Lawful Other same to from exact = record {
     sound = λ p x q h. let s = exact.sound p x q h in (to x s.0, subst (λ (r : List (Option ℕ)). Passes p r q) (same x) s.1);
-    complete = λ p x q l h. exact.complete p x q (from x l) (subst (λ (r : List (Option ℕ)). Passes p r q) (sym (same x)) h) }
+    complete = λ p x q l h. exact.complete p x q (from x l) (subst (λ (r : List (Option ℕ)). Passes p r q) (sym (same x)) h);
+  }
 
   -- each value is lawful, whatever the ones before it
   pub each-All : (P : A → Type 0) (xs ys : List A) → EachLawful (λ (_ : List A) (x : A). P x) xs ys → All P ys

@@ -6,5 +6,4 @@ ghost use Rattle.packing_laws.specs.Layouts.{Layout, ReadsOrBadPlace};
 /// Each text reads as one instance or has one bad place, and not both.
 pub fn each_text_reads_or_has_a_bad_place()
     ensures { (layout : Layout) (text : List ℕ) → ReadsOrBadPlace layout text }
-{
-}
+{}

@@ -27,7 +27,13 @@ pub fn vector(alloc: Global, places: &mut Places, dims: u32) -> Result<Numbers, 
 
 #[tactic(auto, unfolding(packing_laws::specs::Places::next_form))]
 /// The weight vector at the next places, which is a form of an item. Items and forms are numbered from 1.
-pub fn form(alloc: Global, places: &mut Places, dims: u32, item: u32, form: u32) -> Result<Numbers, ReadFault>
+pub fn form(
+    alloc: Global,
+    places: &mut Places,
+    dims: u32,
+    item: u32,
+    form: u32,
+) -> Result<Numbers, ReadFault>
     ensures { GivesOrMemory result places.new (next_form dims item form places.old) }
 {
     let weights = vector(alloc, places, dims)?;

@@ -82,16 +82,20 @@ fn target_of<const N: usize>(pieces: &[Piece<N>], cap: &Weights<N>) -> State<N>
     ensures { result ≡ target pieces.now cap.now }
 {
     if pieces.is_empty() {
-        return State {
-            piece: 1,
-            copies: 0,
-            used: Weights::zero(),
-        };
+        return at_start(1, Weights::zero());
     }
+    at_start(pieces.len() as u32 + 1, *cap)
+}
+
+// At this piece, with no copy of it taken.
+fn at_start<const N: usize>(piece: u32, used: Weights<N>) -> State<N>
+    requires small { N ≤ 32 }
+    ensures { result ≡ record { piece = piece; copies = 0; used = used.entry } }
+{
     State {
-        piece: pieces.len() as u32 + 1,
+        piece,
         copies: 0,
-        used: *cap,
+        used,
     }
 }
 
@@ -188,11 +192,7 @@ fn skip<const N: usize>(state: &State<N>, pieces: &[Piece<N>], cap: &Weights<N>)
 {
     let number = state.piece as usize;
     if number < pieces.len() {
-        return Some(State {
-            piece: state.piece + 1,
-            copies: 0,
-            used: state.used,
-        });
+        return Some(at_start(state.piece + 1, state.used));
     }
     if number == pieces.len() {
         return Some(target_of(pieces, cap));

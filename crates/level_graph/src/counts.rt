@@ -1,4 +1,4 @@
-ghost use Rattle.std.specs.Prelude.{ℕ, ◌≤◌, IfOk};
+ghost use Rattle.std.specs.Prelude.{◌≤◌, IfOk};
 ghost use Rattle.level_graph.specs.Levels.{IsPieceList, IsLevelCount};
 
 use crate::layers::{layer_of, weights_of};

@@ -1,8 +1,7 @@
 //! The states at one piece, from the weights that enter it.
 
-ghost use Rattle.std.specs.Prelude.{◌≡◌, ℕ, ◌+◌, ◌<◌, ◌≤◌, ◌++◌, List, length, map, All, AllPairs, IfOk, OnErr};
+ghost use Rattle.std.specs.Prelude.{◌≡◌, ◌≤◌, length, map, All, AllPairs, IfOk};
 ghost use Rattle.weight_vec.specs.Weight.{Before};
-ghost use Rattle.level_graph.specs.Levels.{StateBefore};
 ghost use Rattle.level_graph.specs.Layers.{taken, entered, IsLayer, AreWeights};
 
 use crate::states::State;

@@ -10,3 +10,6 @@ mod states;
 pub use build::levels;
 pub use counts::level_counts;
 pub use laws::{choices_have_one_path, levels_are_one, paths_are_choices};
+
+#[cfg(test)]
+mod tests;

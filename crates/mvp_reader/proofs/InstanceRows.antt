@@ -1,6 +1,6 @@
 -- A text of several types reads as an instance exactly where its tokens are the row of this instance.
-use Rattle.std.proofs.Common.{◌≡◌, ℕ, ◌+◌, ◌<◌, ◌≤◌, List, [], ◌∷◌, ◌++◌, length, Option, Some, None, Result, Ok, Err, refl, sym, ap, ◌∙◌, subst, arith}
-use Rattle.std.specs.List.{All, flat_map}
+use Rattle.std.proofs.Common.{◌≡◌, ℕ, ◌≤◌, List, [], ◌∷◌, ◌++◌, length, Some, Result, Ok, refl, sym, subst, arith}
+use Rattle.std.specs.List.{flat_map}
 use Rattle.arc_num.specs.Words.{tokens_of}
 use Rattle.arc_num.specs.declared.TheConstants.{MAX_DIMS, MAX_TYPES, MAX_ITEMS}
 use Rattle.packing_laws.specs.declared.fault.ReadFault.{ReadFault}
@@ -9,7 +9,7 @@ use Rattle.packing_laws.specs.declared.instances.Item.{Item}
 use Rattle.packing_laws.specs.Instances.{InstanceValue, IsInstance, IsBinType}
 use Rattle.packing_laws.specs.Places.{Place, front, ◌>>=◌, next_number, several, end_at}
 use Rattle.packing_laws.specs.Layouts.{Mvp, Spells, item_row, type_row, row_of, item_behind, type_behind, instance_at}
-use Rattle.layout_walk.proofs.Rows.{Passes, Spells-passed, Passes-spelled, Passes-join, Passes-split, IsExact, each-All, All-each, read_both, both_read, end_reached, reached_end}
+use Rattle.layout_walk.proofs.Rows.{Passes, Spells-passed, Passes-spelled, Passes-join, Passes-split, each-All, All-each, read_both, both_read, end_reached, reached_end}
 use Rattle.layout_walk.proofs.Numerals.{number-exact}
 use Rattle.mvp_reader.proofs.ItemRows.{types-exact, items-exact, all_together, all_behind}
 
@@ -63,7 +63,8 @@ instance_sound p I h =
       types = each-All (IsBinType n.0) [] ts.0 ts_part.0.1;
       item_count = subst (λ (z : ℕ). z ≤ MAX_ITEMS) (sym xs_part.0.0) m_part.0.1;
       items = items.0;
-      form_count = items.1 } in
+      form_count = items.1;
+    } in
     let type_count = subst (λ (z : ℕ). Passes n.1 (Some z ∷ []) k.1) (sym ts_part.0.0) k_part.1 in
     let item_count = subst (λ (z : ℕ). Passes ts.1 (Some z ∷ []) m.1) (sym xs_part.0.0) m_part.1 in
     let last = Passes-join ts.1 (Some (length xs.0) ∷ []) (flat_map item_row xs.0) m.1 xs.1 item_count xs_part.1 in

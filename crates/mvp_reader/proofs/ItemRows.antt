@@ -1,7 +1,7 @@
 -- A type and an item are read exactly where their tokens spell their rows.
-use Rattle.std.proofs.Common.{zero, suc, ◌≡◌, ℕ, ◌+◌, ◌-◌, ◌<◌, ◌≤◌, Bool, true, false, cond, List, [], ◌∷◌, ◌++◌, length, Option, Some, None, Result, Ok, Err, refl, sym, ap, ◌∙◌, subst, append_assoc, append-nil, arith}
+use Rattle.std.proofs.Common.{◌≡◌, ℕ, ◌+◌, ◌≤◌, false, cond, List, [], ◌∷◌, ◌++◌, length, Option, Some, Result, Ok, Err, refl, sym, ap, ◌∙◌, subst, append_assoc, append-nil, arith}
 use Rattle.std.specs.Prelude.{nat_lt}
-use Rattle.std.specs.List.{All, flat_map, sum_by}
+use Rattle.std.specs.List.{All, flat_map}
 use Rattle.std.proofs.lemmas.List.Sums.{sum_by-append, sum_by-cons}
 use Rattle.std.proofs.lemmas.List.Elements.{All-nil, All-cons, All-head, All-tail}
 use Rattle.arc_num.specs.declared.TheConstants.{MAX_VALUE, MAX_DEMAND, MAX_FORMS, MAX_ALL_FORMS}
@@ -10,7 +10,7 @@ use Rattle.packing_laws.specs.declared.fault.ReadFault.TheVariants.{Total}
 use Rattle.packing_laws.specs.declared.instances.BinType.{BinType}
 use Rattle.packing_laws.specs.declared.instances.Item.{Item}
 use Rattle.packing_laws.specs.Instances.{IsItem, IsForm, IsBinType}
-use Rattle.packing_laws.specs.Places.{Place, ◌>>=◌, next_number, next_limit, next_vector, next_form, several}
+use Rattle.packing_laws.specs.Places.{Place, ◌>>=◌, next_number, next_limit, next_vector, several}
 use Rattle.packing_laws.specs.Layouts.{forms_of, vector_row, item_row, type_row, next_form_count, form_behind, next_item, item_behind, next_type, type_behind}
 use Rattle.layout_walk.proofs.Rows.{Passes, Passes-join, Passes-split, IsExact, EachLawful, several-exact, each-All, All-each, chosen, read_both, both_read, same_value, same_place}
 use Rattle.layout_walk.proofs.Numerals.{number-exact, limit-exact, vector-exact, form-exact}
@@ -59,8 +59,9 @@ type_complete n p x q l h =
 
 pub type-exact : (n : ℕ) → IsExact (next_type n) type_row (IsBinType n)
 type-exact n = record {
-    sound = λ p x q h. type_sound n p x q h;
-    complete = λ p x q l h. type_complete n p x q l h }
+  sound = λ p x q h. type_sound n p x q h;
+  complete = λ p x q l h. type_complete n p x q l h;
+}
 
 pub types-exact : (n count : ℕ) → IsExact (several count (type_behind n) []) (flat_map type_row) (λ (ts : List BinType). (length ts ≡ count) × EachLawful (λ (_ : List BinType) (t : BinType). IsBinType n t) [] ts)
 types-exact n count = several-exact (type_behind n) type_row (λ (_ : List BinType) (t : BinType). IsBinType n t) (λ _. type-exact n) count
@@ -81,16 +82,17 @@ not_over n h = grind arith
 pub count-exact : (before : ℕ) → IsExact (next_form_count before) (λ (n : ℕ). Some n ∷ []) (IsFormCount before)
 unfolding next_form_count
 count-exact before = record {
-    sound = λ p x q h.
+  sound = λ p x q h.
       let both = read_both (next_number 1 MAX_FORMS p) (after_count before) (x, q) h in
       let n = both.0 in
       let ok = chosen (nat_lt MAX_ALL_FORMS (before + n.0)) (Total n.1.count) n (x, q) both.1.1 in
       let number = (number-exact 1 MAX_FORMS).sound p x q (both.1.0 ∙ ap (λ (z : ℕ × Place). Ok z) ok.1) in
       let few : nat_lt MAX_ALL_FORMS (before + x) ≡ false = subst (λ (z : ℕ × Place). nat_lt MAX_ALL_FORMS (before + z.0) ≡ false) ok.1 ok.0 in
       ((number.0, within (before + x) few), number.1);
-    complete = λ p x q l h.
+  complete = λ p x q l h.
       let number = (number-exact 1 MAX_FORMS).complete p x q l.0 h in
-      both_read (next_number 1 MAX_FORMS p) (after_count before) (x, q) (x, q) number (rw (not_over (before + x) l.1) refl) }
+      both_read (next_number 1 MAX_FORMS p) (after_count before) (x, q) (x, q) number (rw (not_over (before + x) l.1) refl);
+}
 
 pub forms-exact : (n item count : ℕ) → IsExact (several count (form_behind n item) []) (flat_map vector_row) (λ (vs : List (List ℕ)). (length vs ≡ count) × EachLawful (λ (_ : List (List ℕ)) (v : List ℕ). IsForm n v) [] vs)
 forms-exact n item count = several-exact (form_behind n item) vector_row (λ (_ : List (List ℕ)) (v : List ℕ). IsForm n v) (λ vs. form-exact n item (length vs + 1)) count
@@ -144,8 +146,9 @@ item_complete n item before p x q l h =
 
 pub item-exact : (n item before : ℕ) → IsExact (next_item n item before) item_row (IsItemBehind n before)
 item-exact n item before = record {
-    sound = λ p x q h. item_sound n item before p x q h;
-    complete = λ p x q l h. item_complete n item before p x q l h }
+  sound = λ p x q h. item_sound n item before p x q h;
+  complete = λ p x q l h. item_complete n item before p x q l h;
+}
 
 abbrev pub LawfulBehind : ℕ → List Item → Item → Type 0
 LawfulBehind n xs x = IsItemBehind n (forms_of xs) x

@@ -1,11 +1,9 @@
 -- Want of memory is no bad place.
-use Rattle.std.proofs.Common.{◌≡◌, ℕ, ◌+◌, List, [], ◌∷◌, Option, Result, Ok, Err, length, cond}
+use Rattle.std.proofs.Common.{ℕ, ◌+◌, List, [], Option, Ok, length}
 use Rattle.std.specs.Prelude.{nat_lt}
 use Rattle.arc_num.specs.declared.TheConstants.{MAX_DIMS, MAX_TYPES, MAX_ITEMS, MAX_DEMAND, MAX_FORMS, MAX_ALL_FORMS, MAX_VALUE}
 use Rattle.packing_laws.specs.declared.fault.ReadFault.{ReadFault}
 use Rattle.packing_laws.specs.declared.fault.ReadFault.TheVariants.{Short, NotNumber, Range, Total, ZeroWeight, Extra, Memory}
-use Rattle.packing_laws.specs.declared.instances.BinType.{BinType}
-use Rattle.packing_laws.specs.declared.instances.Item.{Item}
 use Rattle.packing_laws.specs.Places.{Place, next_number, next_limit, next_vector, next_form, several, end_at}
 use Rattle.packing_laws.specs.Layouts.{forms_of, next_form_count, form_behind, next_item, item_behind, next_type, type_behind, instance_at}
 use Rattle.layout_walk.proofs.Faults.{FaultsAre, faults-then, faults-none, faults-if, faults-number, faults-limit, faults-vector, faults-form, faults-several, faults-end}

@@ -1,8 +1,7 @@
 -- Texts that are worked by hand.
-use Rattle.std.specs.Prelude.{◌≡◌, ℕ, List, [], ◌∷◌, Some, None, Ok, Err, codes}
+use Rattle.std.specs.Prelude.{[], ◌∷◌, Some, None, codes}
 use Rattle.packing_laws.specs.Instances.{InstanceValue}
-use Rattle.packing_laws.specs.Layouts.{Mvp, reading_of, Reads, BadPlace}
-use Rattle.packing_laws.specs.declared.fault.ReadFault.{ReadFault}
+use Rattle.packing_laws.specs.Layouts.{Mvp, Reads, BadPlace}
 use Rattle.packing_laws.specs.declared.fault.ReadFault.TheVariants.{Short, NotNumber, Range, ZeroWeight, Extra}
 
 -- in one dimension: bins of 2 for 3 without limit, and one unit of 1
@@ -10,14 +9,16 @@ abbrev pub one_unit : InstanceValue
 one_unit = record {
   dims = 1;
   types = record { cap = 2 ∷ []; cost = 3; limit = None } ∷ [];
-  items = record { demand = 1; forms = (1 ∷ []) ∷ [] } ∷ [] }
+  items = record { demand = 1; forms = (1 ∷ []) ∷ [] } ∷ [];
+}
 
 -- in two dimensions: two types, the first of which is limited, and one item of two forms
 abbrev pub two_types : InstanceValue
 two_types = record {
   dims = 2;
   types = record { cap = 10 ∷ 5 ∷ []; cost = 4; limit = Some 2 } ∷ record { cap = 0 ∷ 7 ∷ []; cost = 0; limit = None } ∷ [];
-  items = record { demand = 3; forms = (6 ∷ 0 ∷ []) ∷ (0 ∷ 2 ∷ []) ∷ [] } ∷ [] }
+  items = record { demand = 3; forms = (6 ∷ 0 ∷ []) ∷ (0 ∷ 2 ∷ []) ∷ [] } ∷ [];
+}
 
 pub record Rows : Type 0 where
   pub one : Reads Mvp (codes "1 1 2 3 -1 1 1 1 1") one_unit

@@ -7,17 +7,14 @@ ghost use Rattle.mvp_reader.specs.Worked.{Rows};
 /// the row of this instance, or is -1 where the place is a limit and there is none.
 pub fn a_text_reads_as_its_row()
     ensures { ReadsItsRow Mvp }
-{
-}
+{}
 
 /// Want of memory is no bad place.
 pub fn memory_is_no_place()
     ensures { MemoryIsNoPlace Mvp }
-{
-}
+{}
 
 /// Texts that are worked by hand.
 pub fn rows_are_worked()
     ensures { Rows }
-{
-}
+{}

@@ -5,16 +5,16 @@ ghost use Rattle.std.specs.Prelude.{◌≡◌, ◌≢◌, ◌⊎◌, ℕ, ◌+�
 ghost use Rattle.packing_laws.specs.Places.{Place, several, Gives, GivesOrMemory, AnswersOrMemory};
 ghost use Rattle.packing_laws.specs.Layouts.{Layout, Mvp, Reads, BadPlace, reading_of, forms_of, next_form_count, form_behind, next_item, item_behind, next_type, type_behind, instance_at};
 
-use arc_num::{MAX_ALL_FORMS, MAX_DEMAND, MAX_DIMS, MAX_FORMS, MAX_INSTANCE, MAX_ITEMS, MAX_TYPES, MAX_VALUE};
+use arc_num::{
+    MAX_ALL_FORMS, MAX_DEMAND, MAX_DIMS, MAX_FORMS, MAX_INSTANCE, MAX_ITEMS, MAX_TYPES, MAX_VALUE,
+};
 use layout_walk::{Parts, Places, form, vector};
 use packing_laws::{BinType, Instance, Item, ReadFault, Vectors};
 use std::alloc::Global;
 
 mod laws;
 
-pub use laws::a_text_reads_as_its_row;
-pub use laws::memory_is_no_place;
-pub use laws::rows_are_worked;
+pub use laws::{a_text_reads_as_its_row, memory_is_no_place, rows_are_worked};
 
 /// The instance that the text spells, or its first bad place.
 pub fn read_mvp(alloc: Global, text: &[u8]) -> Result<Instance, ReadFault>
@@ -43,11 +43,14 @@ fn read_parts(alloc: Global, places: &mut Places) -> Result<Parts, ReadFault>
 }
 
 #[tactic(auto, using(layout_walk::proofs::Repeats::repeats))]
-fn read_types(alloc: Global, places: &mut Places, dims: u32, count: u32) -> Result<Vec<BinType>, ReadFault>
-    ensures {
-        let read = several count (type_behind dims) [] places.old in
-        MatchResult result (λ v. read ≡ Ok (v.items, places.new)) (λ e. (e ≡ ReadFault.Memory) ⊎ (read ≡ Err e))
-    }
+fn read_types(
+    alloc: Global,
+    places: &mut Places,
+    dims: u32,
+    count: u32,
+) -> Result<Vec<BinType>, ReadFault>
+    ensures { let read = several count (type_behind dims) [] places.old in
+        MatchResult result (λ v. read ≡ Ok (v.items, places.new)) (λ e. (e ≡ ReadFault.Memory) ⊎ (read ≡ Err e)) }
 {
     let mut types = Vec::new(alloc);
     for _t in 0..count {
@@ -73,11 +76,14 @@ fn read_type(alloc: Global, places: &mut Places, dims: u32) -> Result<BinType, R
 }
 
 #[tactic(auto, using(crate::proofs::Steps::item_steps))]
-fn read_items(alloc: Global, places: &mut Places, dims: u32, count: u32) -> Result<Vec<Item>, ReadFault>
-    ensures {
-        let read = several count (item_behind dims) [] places.old in
-        MatchResult result (λ v. read ≡ Ok (v.items, places.new)) (λ e. (e ≡ ReadFault.Memory) ⊎ (read ≡ Err e))
-    }
+fn read_items(
+    alloc: Global,
+    places: &mut Places,
+    dims: u32,
+    count: u32,
+) -> Result<Vec<Item>, ReadFault>
+    ensures { let read = several count (item_behind dims) [] places.old in
+        MatchResult result (λ v. read ≡ Ok (v.items, places.new)) (λ e. (e ≡ ReadFault.Memory) ⊎ (read ≡ Err e)) }
 {
     let mut items = Vec::new(alloc);
     let mut forms = 0;
@@ -96,7 +102,13 @@ fn read_items(alloc: Global, places: &mut Places, dims: u32, count: u32) -> Resu
 
 // The items before this one have `before` forms.
 #[tactic(auto, unfolding(packing_laws::specs::Layouts::next_item))]
-fn read_item(alloc: Global, places: &mut Places, dims: u32, item: u32, before: u32) -> Result<Item, ReadFault>
+fn read_item(
+    alloc: Global,
+    places: &mut Places,
+    dims: u32,
+    item: u32,
+    before: u32,
+) -> Result<Item, ReadFault>
     requires { before ≤ MAX_ALL_FORMS }
     ensures read { GivesOrMemory result places.new (next_item dims item before places.old) }
     ensures total { IfOk result (λ x. before + length x.forms ≤ MAX_ALL_FORMS) }
@@ -123,7 +135,13 @@ fn read_form_count(places: &mut Places, before: u32) -> Result<u32, ReadFault>
 }
 
 #[tactic(auto, using(layout_walk::proofs::Repeats::repeats))]
-fn read_forms(alloc: Global, places: &mut Places, dims: u32, item: u32, count: u32) -> Result<Vectors, ReadFault>
+fn read_forms(
+    alloc: Global,
+    places: &mut Places,
+    dims: u32,
+    item: u32,
+    count: u32,
+) -> Result<Vectors, ReadFault>
     ensures read { GivesOrMemory result places.new (several count (form_behind dims item) [] places.old) }
     ensures count { IfOk result (λ vs. length vs ≡ count) }
 {
@@ -139,3 +157,6 @@ fn read_forms(alloc: Global, places: &mut Places, dims: u32, item: u32, count: u
     }
     Ok(Vectors::new(forms))
 }
+
+#[cfg(test)]
+mod tests;

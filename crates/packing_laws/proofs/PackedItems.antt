@@ -28,7 +28,7 @@ vector_fits-at (x ∷ v) (y ∷ cap) zero same fits = leb-true x y (and_parts (n
 vector_fits-at (x ∷ v) (y ∷ cap) (suc k) same fits = vector_fits-at v cap k (omega arith) (and_parts (nat_le x y) (vector_fits v cap) fits).1
 
 -- a sum above 0 has a term above 0
-positive_term : {X : Type 0} (f : X → ℕ) (xs : List X) → 0 < sum_by f xs → (k : ℕ) × (k < length xs) × ((d : X) → 0 < f (get_or xs k d))
+pub positive_term : {X : Type 0} (f : X → ℕ) (xs : List X) → 0 < sum_by f xs → (k : ℕ) × (k < length xs) × ((d : X) → 0 < f (get_or xs k d))
 positive_term f [] some = absurd (omega arith)
 positive_term f (x ∷ xs) some = elim (cases_lt 0 (f x)) [
   | inl here ↦ (zero, omega arith, λ d. here)

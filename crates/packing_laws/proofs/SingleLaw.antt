@@ -1,5 +1,5 @@
 -- The single cost is that of some packing.
-use Rattle.std.proofs.Common.{zero, suc, ◌≡◌, ℕ, ◌+◌, ◌-◌, ◌<◌, ◌≤◌, ◌∙◌, inl, inr, List, [], ◌∷◌, ◌++◌, length, map, filter, min, Bool, true, false, cond, ◌&&◌, Option, Some, None, is_none, refl, sym, subst, arith, get_or, add-one}
+use Rattle.std.proofs.Common.{zero, suc, ◌≡◌, ℕ, ◌+◌, ◌-◌, ◌<◌, ◌≤◌, ◌∙◌, inl, inr, List, [], ◌∷◌, ◌++◌, length, map, filter, min, Bool, true, false, cond, ◌&&◌, Option, Some, None, is_none, refl, sym, subst, arith, get_or}
 use Rattle.std.proofs.lemmas.Bool.{cases_lt, and_parts}
 use Rattle.std.proofs.lemmas.List.{get_or_default}
 use Rattle.std.proofs.lemmas.List.Folds.{Any-from_list_any}
@@ -90,11 +90,13 @@ apart-exists I (suc n) inside single within =
     let e : n + 1 - 1 ≡ n = omega arith in
     let x : Item = item_at I (n + 1) in
     let costs : 0 < x.demand → 0 < length (single_costs I x) = rw e (single n (record { demand = 0; forms = [] }) (omega arith)) in
+    let up : n + 1 ≡ suc n = omega arith in
     elim (cases_lt 0 x.demand) [
       | inl some ↦
           let c = cheapest-exists I x (costs some) in
-          (before.0 ++ unit_bin c.0 (n + 1) x.demand ∷ [], rw (← add-one) (AreApart-more I n before.0 x c.0 inside (omega arith) refl some c.1 before.1))
-      | inr none ↦ (before.0, rw (← add-one) (AreApart-skipped I n before.0 x (omega arith) refl (omega arith) before.1))
+          let bins : List Bin = before.0 ++ unit_bin c.0 (n + 1) x.demand ∷ [] in
+          (bins, subst (λ (m : ℕ). AreApart I m bins) up (AreApart-more I n before.0 x c.0 inside (omega arith) refl some c.1 before.1))
+      | inr none ↦ (before.0, subst (λ (m : ℕ). AreApart I m before.0) up (AreApart-skipped I n before.0 x (omega arith) refl (omega arith) before.1))
     ]
 
 pub single_is_reached : SingleIsReached

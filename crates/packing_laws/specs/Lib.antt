@@ -1,6 +1,7 @@
 pub mod Instances
 pub mod Packings
 pub mod Printed
+pub mod Tidying
 pub mod Floors
 pub mod FloorExamples
 pub mod Choices

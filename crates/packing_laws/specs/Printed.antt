@@ -1,5 +1,5 @@
 -- Packings as they are written down: bins, each with the number of times that it is used.
-use Rattle.std.specs.Prelude.{◌≡◌, ℕ, ◌+◌, ◌*◌, ◌<◌, ◌≤◌, List, [], ◌∷◌, All, length, replicate, sum_by, filter, nat_lt}
+use Rattle.std.specs.Prelude.{◌≡◌, ℕ, ◌+◌, ◌*◌, ◌^◌, ◌<◌, ◌≤◌, Bool, if◌then◌else◌, List, [], ◌∷◌, All, length, replicate, sum_by, filter, nat_lt}
 use Rattle.std.specs.List.{flat_map}
 use Rattle.std.specs.List.Sorted.{IsStrictlySortedBy, IsPermutation}
 use Rattle.std.specs.Ordering.{nat_cmp, ordering_then}
@@ -54,6 +54,15 @@ pub record IsTidy (bins : List Bin) : Type 0 where
 -- how many units are in a content
 abbrev pub units_in : Content → ℕ
 units_in c = sum_by (λ n. n.count) c
+
+-- the bin holds some unit
+abbrev pub is_filled : Bin → Bool
+is_filled b = nat_lt 0 (units_in b.counts)
+
+-- the sums of the printed form fit: the times of the bins that hold some unit, and what is in each bin that is used
+pub record SumsFit (bins : List Bin) : Type 0 where
+  pub times : sum_by (λ b. if is_filled b then b.times else 0) bins < 2 ^ 32
+  pub counts : All (λ b. 0 < b.times → units_in b.counts < 2 ^ 32) bins
 
 -- the bins that are not empty
 abbrev pub filled_bins : Bins → Bins

@@ -1,5 +1,5 @@
-ghost use Rattle.std.specs.Prelude.{◌≡◌, ℕ, [], ◌∷◌, ◌↔◌, All, IsSome, IfSome, IfOk};
-ghost use Rattle.packing_laws.specs.Packings.{IsPacking, cost_of};
+ghost use Rattle.std.specs.Prelude.{◌≡◌, [], ◌∷◌, ◌↔◌, All, IsSome, IfSome, IfOk};
+ghost use Rattle.packing_laws.specs.Packings.{cost_of};
 ghost use Rattle.packing_laws.specs.Printed.{bins_of, IsWrittenPacking, IsTidyBin};
 ghost use Rattle.packing_laws.specs.Floors.{single_of, HasSingle, HasOneUnitEach};
 

@@ -1,4 +1,4 @@
-ghost use Rattle.std.specs.Prelude.{◌≡◌, ℕ, ◌≤◌};
+ghost use Rattle.std.specs.Prelude.{◌≡◌, ◌≤◌};
 ghost use Rattle.packing_laws.specs.Packings.{cost_at, cost_of};
 ghost use Rattle.packing_laws.specs.Printed.{bins_of};
 

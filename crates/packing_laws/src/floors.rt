@@ -1,8 +1,8 @@
-ghost use Rattle.std.specs.Prelude.{◌≡◌, ℕ, ◌+◌, ◌-◌, ◌*◌, ◌^◌, ◌<◌, ◌≤◌, All, MatchOption, length, map, min, slice_index};
-ghost use Rattle.packing_laws.specs.Instances.{IsAmong, IsBinType, IsItem};
+ghost use Rattle.std.specs.Prelude.{◌≡◌, ◌+◌, ◌-◌, ◌*◌, ◌^◌, ◌<◌, ◌≤◌, All, MatchOption, length, map, min, slice_index};
+ghost use Rattle.packing_laws.specs.Instances.{IsAmong};
 ghost use Rattle.packing_laws.specs.Floors.{least_of, div_up, material_in, floor_in, material_of};
 
-use crate::instances::{Instance, Item};
+use crate::instances::Instance;
 use crate::numbers::Numbers;
 
 /// No packing costs less: see `material_is_floor`.

@@ -39,7 +39,7 @@ impl Model for Instance {
 }
 
 impl Instance {
-    ghost use Rattle.std.specs.Prelude.{◌≡◌, ℕ, ◌≤◌, ◌↔◌, All, IsSome, IfSome, IfNone, length};
+    ghost use Rattle.std.specs.Prelude.{◌≡◌, ◌≤◌, ◌↔◌, All, IsSome, IfSome, length};
     ghost use Rattle.packing_laws.specs.Instances.{InstanceValue, IsInstance, IsBinType, IsItem, IsAmong, type_at, item_at, units_of};
 
     /// None where a number is outside the limits, a vector has not `dims` numbers, or a form is zero in every dimension.

@@ -15,6 +15,7 @@ mod places;
 mod single;
 #[cfg(test)]
 mod tests;
+mod tidying;
 
 pub use apart::units_apart;
 pub use checks::{fits, is_packing};
@@ -30,3 +31,4 @@ pub use numbers::{Numbers, Vectors};
 pub use packings::{Bin, Count, Counts, Packing};
 pub use places::homeless_item;
 pub use single::single_cost;
+pub use tidying::tidy;

@@ -1,6 +1,6 @@
 //! Tests of the limits, part by part.
 
-ghost use Rattle.std.specs.Prelude.{◌≡◌, ℕ, ◌≤◌, ◌↔◌, IsTrue, length, All, sum_by};
+ghost use Rattle.std.specs.Prelude.{◌≤◌, ◌↔◌, IsTrue, length, All, sum_by};
 ghost use Rattle.packing_laws.specs.Instances.{IsVector, IsAmong, IsForm, IsLimit, IsBinType, IsItem, IsInstance};
 
 use crate::instances::{BinType, Item};

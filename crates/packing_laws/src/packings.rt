@@ -1,5 +1,6 @@
 ghost use Rattle.std.specs.Prelude.{◌≡◌, ℕ, List};
 
+use std::alloc::Global;
 use std::marker::Model;
 
 /// So many units of a form of an item. Items and forms are numbered from 1.
@@ -73,5 +74,10 @@ impl Packing {
         ensures { result.now ≡ self.now }
     {
         self.bins.as_slice()
+    }
+
+    /// The allocator that the bins were made with.
+    pub(crate) fn allocator(&self) -> Global {
+        *self.bins.allocator()
     }
 }

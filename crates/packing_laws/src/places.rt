@@ -1,4 +1,4 @@
-ghost use Rattle.std.specs.Prelude.{◌≡◌, ℕ, ◌-◌, ◌≤◌, ◌↔◌, true, false, [], length, slice_index_or, IsNone, IfSome, MatchOption};
+ghost use Rattle.std.specs.Prelude.{◌≡◌, ◌-◌, ◌≤◌, ◌↔◌, true, false, [], length, slice_index_or, IsNone, IfSome};
 ghost use Rattle.std.specs.List.{list_any};
 ghost use Rattle.packing_laws.specs.Instances.{IsAmong};
 ghost use Rattle.packing_laws.specs.Floors.{vector_fits, item_fits, HasPlaces, IsFirstHomeless};
@@ -34,7 +34,7 @@ fn some_fits(forms: &[Numbers], cap: &[u32]) -> bool
     forms.iter().any(|form| fits_within(form.as_slice(), cap))
 }
 
-/// The first form that is nowhere greater than the capacity, by its number from 1.
+/// A form that is nowhere greater than the capacity, by its number from 1.
 pub(crate) fn fitting_form(forms: &[Numbers], cap: &[u32]) -> Option<u32>
     requires { length forms.now ≤ MAX_FORMS }
     ensures none { IsNone result ↔ (list_any (λ v. vector_fits v cap.now) forms.now ≡ false) }

@@ -1,5 +1,5 @@
-ghost use Rattle.std.specs.Prelude.{◌≡◌, ℕ, ◌+◌, ◌-◌, ◌*◌, ◌^◌, ◌<◌, ◌≤◌, ◌↔◌, [], length, All, IsNone, IsSome, IfSome, IfOk, MatchOption, min, ◌∷◌, ◌⊎◌, ◌&&◌, is_none, false};
-ghost use Rattle.packing_laws.specs.Instances.{IsInstance, IsItem};
+ghost use Rattle.std.specs.Prelude.{◌≡◌, ◌+◌, ◌-◌, ◌*◌, ◌^◌, ◌<◌, ◌≤◌, ◌↔◌, [], length, IsNone, IsSome, IfSome, MatchOption, min, ◌⊎◌, ◌&&◌, is_none, false};
+ghost use Rattle.packing_laws.specs.Instances.{IsItem};
 ghost use Rattle.packing_laws.specs.Floors.{item_fits, single_costs, single_of, HasSingle};
 ghost use Rattle.packing_laws.specs.Choices.{IsChoiceOf, IsCheapest};
 
@@ -40,7 +40,7 @@ fn cost_of_units(units: u32, cost: u32) -> u128
     u128::from(units) * u128::from(cost)
 }
 
-/// The cheapest type without limit that some form of the item fits; the first of several.
+/// The cheapest type without limit that some form of the item fits, and such a form.
 pub(crate) fn cheapest(instance: &Instance, item: &Item) -> Option<Choice>
     requires { IsItem instance.now.dims item.now }
     ensures none { IsNone result ↔ (single_costs instance.now item.now ≡ []) }
@@ -56,7 +56,7 @@ pub(crate) fn cheapest(instance: &Instance, item: &Item) -> Option<Choice>
     best
 }
 
-/// The first form that fits the type, unless the type has a limit.
+/// A form that fits the type, unless the type has a limit.
 fn choice_of(item: &Item, bin_type: &BinType, number: u32) -> Option<Choice>
     requires { length item.now.forms ≤ MAX_FORMS }
     ensures none { IsNone result ↔ ((is_none bin_type.now.limit && item_fits item.now bin_type.now) ≡ false) }

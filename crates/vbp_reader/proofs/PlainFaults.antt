@@ -1,9 +1,8 @@
 -- No text of one type has too many forms, and want of memory is no bad place.
-use Rattle.std.proofs.Common.{◌≡◌, ℕ, ◌+◌, List, [], ◌∷◌, Result, Ok, Err, length}
+use Rattle.std.proofs.Common.{ℕ, ◌+◌, [], Ok, length}
 use Rattle.arc_num.specs.declared.TheConstants.{MAX_DIMS, MAX_ITEMS, MAX_DEMAND}
 use Rattle.packing_laws.specs.declared.fault.ReadFault.{ReadFault}
 use Rattle.packing_laws.specs.declared.fault.ReadFault.TheVariants.{Short, NotNumber, Range, Total, ZeroWeight, Extra, Memory}
-use Rattle.packing_laws.specs.declared.instances.Item.{Item}
 use Rattle.packing_laws.specs.Places.{Place, next_number, next_vector, next_form, several, end_at}
 use Rattle.packing_laws.specs.Layouts.{next_plain_item, plain_item_behind, plain_instance_at}
 use Rattle.layout_walk.proofs.Faults.{FaultsAre, faults-then, faults-none, faults-number, faults-vector, faults-form, faults-several, faults-end}

@@ -1,5 +1,5 @@
 -- A row of numbers is spelled by digits alone.
-use Rattle.std.proofs.Common.{◌≡◌, ℕ, ◌+◌, Bool, true, List, [], ◌∷◌, ◌++◌, length, map, Option, Some, Result, Ok, refl, sym, ap, ◌∙◌, subst}
+use Rattle.std.proofs.Common.{◌≡◌, ℕ, true, List, [], ◌∷◌, ◌++◌, length, map, Option, Some, Ok, refl, sym, ap, ◌∙◌, subst}
 use Rattle.std.specs.List.{All, flat_map}
 use Rattle.std.proofs.lemmas.List.Elements.{All-nil, All-cons, All-head, All-tail}
 use Rattle.std.proofs.lemmas.List.{map-append}
@@ -30,7 +30,6 @@ spelled_digits (t ∷ ts) [] h e = absurd (cc)
 spelled_digits (t ∷ ts) (n ∷ ns) h e = ((All-head AreDigits t ts h, cc), spelled_digits ts ns (All-tail AreDigits t ts h) (cc))
 
 module _ {X : Type 0} where
-
   map_joined : (f : X → List ℕ) (g : X → List (Option ℕ)) (same : (x : X) → map (λ n. Some n) (f x) ≡ g x) (xs : List X) → map (λ n. Some n) (flat_map f xs) ≡ flat_map g xs
   map_joined f g same [] = refl
   map_joined f g same (x ∷ xs) =
@@ -45,7 +44,7 @@ row_of_numbers I =
     let types = map_joined (λ (t : BinType). t.cap) (λ (t : BinType). vector_row t.cap) (λ t. refl) I.types in
     let items = map_joined (λ (x : Item). flat_map (λ v. v) x.forms ++ x.demand ∷ []) plain_item_row item_joined I.items in
     ap (λ (r : List (Option ℕ)). Some I.dims ∷ r) (map-append (λ (n : ℕ). Some n) (flat_map (λ (t : BinType). t.cap) I.types) (length I.items ∷ flat_map (λ x. flat_map (λ v. v) x.forms ++ x.demand ∷ []) I.items)
-      ∙ cc (types, items))
+    ∙ cc (types, items))
 
 pub reads_its_numbers : (text : List ℕ) (I : InstanceValue) → plain_instance_at (front text) ≡ Ok I → (IsInstance I × IsPlain I) × All (λ t. are_digits t ≡ true) (tokens_of text) × (map value_of (tokens_of text) ≡ plain_numbers_of I)
 reads_its_numbers text I h =

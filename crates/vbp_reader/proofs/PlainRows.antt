@@ -1,10 +1,10 @@
 -- A text of one type reads as an instance exactly where its tokens are the row of this instance.
-use Rattle.std.proofs.Common.{zero, suc, ◌≡◌, ℕ, ◌+◌, ◌-◌, ◌<◌, ◌≤◌, Bool, true, false, cond, List, [], ◌∷◌, ◌++◌, length, Option, Some, None, Result, Ok, Err, refl, sym, ap, ◌∙◌, subst, append_assoc, append-nil, arith}
+use Rattle.std.proofs.Common.{◌≡◌, ℕ, ◌+◌, ◌≤◌, List, [], ◌∷◌, ◌++◌, length, Option, Some, None, Result, Ok, refl, sym, ap, ◌∙◌, subst, append-nil, arith}
 use Rattle.std.specs.List.{All, flat_map, sum_by}
 use Rattle.std.proofs.lemmas.List.Sums.{sum_by-cons}
 use Rattle.std.proofs.lemmas.List.Elements.{All-nil, All-cons, All-head, All-tail, All-weaker}
 use Rattle.arc_num.specs.Words.{tokens_of}
-use Rattle.arc_num.specs.declared.TheConstants.{MAX_DIMS, MAX_ITEMS, MAX_DEMAND, MAX_FORMS}
+use Rattle.arc_num.specs.declared.TheConstants.{MAX_DIMS, MAX_ITEMS, MAX_DEMAND}
 use Rattle.packing_laws.specs.declared.fault.ReadFault.{ReadFault}
 use Rattle.packing_laws.specs.declared.instances.BinType.{BinType}
 use Rattle.packing_laws.specs.declared.instances.Item.{Item}
@@ -55,8 +55,9 @@ item_complete n item p b (v ∷ []) q l h =
 
 pub item-exact : (n item : ℕ) → IsExact (next_plain_item n item) plain_item_row (IsPlainItem n)
 item-exact n item = record {
-    sound = λ p x q h. item_sound n item p x q h;
-    complete = λ p x q l h. item_complete n item p x.demand x.forms q l h }
+  sound = λ p x q h. item_sound n item p x q h;
+  complete = λ p x q l h. item_complete n item p x.demand x.forms q l h;
+}
 
 pub items-exact : (n count : ℕ) → IsExact (several count (plain_item_behind n) []) (flat_map plain_item_row) (λ (xs : List Item). (length xs ≡ count) × EachLawful (λ (_ : List Item) (x : Item). IsPlainItem n x) [] xs)
 items-exact n count = several-exact (plain_item_behind n) plain_item_row (λ (_ : List Item) (x : Item). IsPlainItem n x) (λ xs. item-exact n (length xs + 1)) count
@@ -90,15 +91,17 @@ lawful_instance : (n : ℕ) (cap : List ℕ) (xs : List Item) → (1 ≤ n) × (
 lawful_instance n cap xs dims vector count items =
     let one_form = All-weaker (IsPlainItem n) (λ (x : Item). length x.forms ≡ 1) (λ x l. l.1) xs items in
     let forms = forms_each xs one_form in
-    let bin_type : IsBinType n (record { cap = cap; cost = 1; limit = None }) = record { capacity = vector; cost = omega arith; limit = tt } in
-    (record {
-      dims = dims;
-      type_count = (omega arith, omega arith);
-      types = All-cons (IsBinType n) (record { cap = cap; cost = 1; limit = None }) [] bin_type (All-nil (IsBinType n));
-      item_count = count;
-      items = All-weaker (IsPlainItem n) (IsItem n) (λ x l. l.0) xs items;
-      form_count = omega arith },
-    record { types = (cap, refl); forms = one_form })
+    let bin_type : IsBinType n (record { cap = cap; cost = 1; limit = None }) = record { capacity = vector; cost = omega arith; limit = tt } in (
+      record {
+        dims = dims;
+        type_count = (omega arith, omega arith);
+        types = All-cons (IsBinType n) (record { cap = cap; cost = 1; limit = None }) [] bin_type (All-nil (IsBinType n));
+        item_count = count;
+        items = All-weaker (IsPlainItem n) (IsItem n) (λ x l. l.0) xs items;
+        form_count = omega arith;
+      },
+      record { types = (cap, refl); forms = one_form },
+    )
 
 row_of_instance : (n : ℕ) (cap : List ℕ) (xs : List Item) → Some n ∷ (vector_row cap ++ Some (length xs) ∷ flat_map plain_item_row xs) ≡ row_of Vbp (Plain n cap xs)
 row_of_instance n cap xs = ap (λ (r : List (Option ℕ)). Some n ∷ (r ++ Some (length xs) ∷ flat_map plain_item_row xs)) (sym (append-nil (vector_row cap)))

@@ -1,8 +1,7 @@
 -- Texts that are worked by hand.
-use Rattle.std.specs.Prelude.{◌≡◌, ℕ, List, [], ◌∷◌, None, Ok, Err, codes}
+use Rattle.std.specs.Prelude.{[], ◌∷◌, None, codes}
 use Rattle.packing_laws.specs.Instances.{InstanceValue}
-use Rattle.packing_laws.specs.Layouts.{Vbp, reading_of, Reads, BadPlace}
-use Rattle.packing_laws.specs.declared.fault.ReadFault.{ReadFault}
+use Rattle.packing_laws.specs.Layouts.{Vbp, Reads, BadPlace}
 use Rattle.packing_laws.specs.declared.fault.ReadFault.TheVariants.{Short, NotNumber, Range, ZeroWeight, Extra}
 
 -- in one dimension: bins of 10 for 1, and three units of 6
@@ -10,14 +9,16 @@ abbrev pub three_units_of_six : InstanceValue
 three_units_of_six = record {
   dims = 1;
   types = record { cap = 10 ∷ []; cost = 1; limit = None } ∷ [];
-  items = record { demand = 3; forms = (6 ∷ []) ∷ [] } ∷ [] }
+  items = record { demand = 3; forms = (6 ∷ []) ∷ [] } ∷ [];
+}
 
 -- in one dimension: bins of 10 for 1, and no item
 abbrev pub nothing_to_pack : InstanceValue
 nothing_to_pack = record {
   dims = 1;
   types = record { cap = 10 ∷ []; cost = 1; limit = None } ∷ [];
-  items = [] }
+  items = [];
+}
 
 pub record Rows : Type 0 where
   pub three_sixes : Reads Vbp (codes "1 10 1 6 3") three_units_of_six

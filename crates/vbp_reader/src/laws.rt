@@ -6,24 +6,20 @@ ghost use Rattle.vbp_reader.specs.Worked.{Rows};
 /// A text reads as an instance exactly where its tokens are the row of fields of this instance.
 pub fn a_text_reads_as_its_row()
     ensures { ReadsItsRow Vbp }
-{
-}
+{}
 
 /// A text reads as an instance exactly where all its tokens are digits and their values are the row of numbers of
 /// this instance.
 pub fn a_text_reads_as_its_numbers()
     ensures { ReadsItsNumbers }
-{
-}
+{}
 
 /// Want of memory is no bad place.
 pub fn memory_is_no_place()
     ensures { MemoryIsNoPlace Vbp }
-{
-}
+{}
 
 /// Texts that are worked by hand.
 pub fn rows_are_worked()
     ensures { Rows }
-{
-}
+{}

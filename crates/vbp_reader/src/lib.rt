@@ -12,10 +12,9 @@ use std::alloc::Global;
 
 mod laws;
 
-pub use laws::a_text_reads_as_its_numbers;
-pub use laws::a_text_reads_as_its_row;
-pub use laws::memory_is_no_place;
-pub use laws::rows_are_worked;
+pub use laws::{
+    a_text_reads_as_its_numbers, a_text_reads_as_its_row, memory_is_no_place, rows_are_worked,
+};
 
 /// The instance that the text spells, or its first bad place.
 pub fn read_vbp(alloc: Global, text: &[u8]) -> Result<Instance, ReadFault>
@@ -40,18 +39,27 @@ fn read_parts(alloc: Global, places: &mut Places) -> Result<Parts, ReadFault>
     let count = places.number(0, MAX_ITEMS)?;
     let items = read_items(alloc, places, dims, count)?;
     places.end()?;
-    match vec![in alloc; BinType { cap, cost: 1, limit: None }] {
+    match vec![in alloc;
+        BinType {
+            cap,
+            cost: 1,
+            limit: None
+        },
+    ] {
         Ok(types) => Ok(Parts::new(dims, types, items)),
         Err(_) => Err(ReadFault::Memory),
     }
 }
 
 #[tactic(auto, using(layout_walk::proofs::Repeats::repeats))]
-fn read_items(alloc: Global, places: &mut Places, dims: u32, count: u32) -> Result<Vec<Item>, ReadFault>
-    ensures {
-        let read = several count (plain_item_behind dims) [] places.old in
-        MatchResult result (λ v. read ≡ Ok (v.items, places.new)) (λ e. (e ≡ ReadFault.Memory) ⊎ (read ≡ Err e))
-    }
+fn read_items(
+    alloc: Global,
+    places: &mut Places,
+    dims: u32,
+    count: u32,
+) -> Result<Vec<Item>, ReadFault>
+    ensures { let read = several count (plain_item_behind dims) [] places.old in
+        MatchResult result (λ v. read ≡ Ok (v.items, places.new)) (λ e. (e ≡ ReadFault.Memory) ⊎ (read ≡ Err e)) }
 {
     let mut items = Vec::new(alloc);
     for i in 0..count {
@@ -80,3 +88,6 @@ fn read_item(alloc: Global, places: &mut Places, dims: u32, item: u32) -> Result
         Err(_) => Err(ReadFault::Memory),
     }
 }
+
+#[cfg(test)]
+mod tests;

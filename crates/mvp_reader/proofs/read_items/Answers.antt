@@ -1,6 +1,6 @@
 use Rattle.std.proofs.Common.{◌≡◌, ◌⊎◌, ℕ, ◌+◌, length, Err, sym, subst, arith}
 use Rattle.packing_laws.specs.declared.fault.ReadFault.TheVariants.{Memory}
-use Rattle.packing_laws.specs.Layouts.{next_item, item_behind, forms_of}
+use Rattle.packing_laws.specs.Layouts.{next_item, item_behind}
 use Rattle.layout_walk.proofs.Repeats.{several-fails}
 use Rattle.mvp_reader.proofs.read_items.Goals as goal
 

@@ -9,4 +9,5 @@ invariant-loop-i l = record {
   length : vec_len l.items ≡ l.i;
   forms : forms_of l.items.items ≡ l.forms;
   within : l.forms ≤ MAX_ALL_FORMS;
-  read : several (l.count - l.i) (item_behind l.dims) l.items.items l.places ≡ several l.count (item_behind l.dims) [] l.initial.places }
+  read : several (l.count - l.i) (item_behind l.dims) l.items.items l.places ≡ several l.count (item_behind l.dims) [] l.initial.places;
+}

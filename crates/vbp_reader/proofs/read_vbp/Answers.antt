@@ -1,7 +1,6 @@
-use Rattle.std.proofs.Common.{◌≡◌, ℕ, Err, Result, ◌⊎◌, inl, inr, subst}
+use Rattle.std.proofs.Common.{◌≡◌, ℕ, Err, ◌⊎◌, inl, inr, subst}
 use Rattle.packing_laws.specs.declared.fault.ReadFault.{ReadFault}
 use Rattle.packing_laws.specs.declared.fault.ReadFault.TheVariants.{Memory, Total}
-use Rattle.packing_laws.specs.Instances.{InstanceValue}
 use Rattle.packing_laws.specs.Places.{Place}
 use Rattle.packing_laws.specs.Layouts.{plain_instance_at}
 use Rattle.vbp_reader.proofs.PlainRows.{instance_sound}

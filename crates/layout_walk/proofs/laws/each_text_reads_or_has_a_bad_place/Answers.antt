@@ -1,7 +1,7 @@
-use Rattle.std.proofs.Common.{◌≡◌, ℕ, List, Result, Ok, Err, refl, sym, ◌∙◌, inl, inr, ◌⊎◌}
+use Rattle.std.proofs.Common.{◌≡◌, Result, Ok, Err, refl, inl, inr, ◌⊎◌}
 use Rattle.packing_laws.specs.declared.fault.ReadFault.{ReadFault}
 use Rattle.packing_laws.specs.Instances.{InstanceValue}
-use Rattle.packing_laws.specs.Layouts.{Layout, ReadsOrBadPlace, reading_of}
+use Rattle.packing_laws.specs.Layouts.{reading_of}
 use Rattle.layout_walk.proofs.laws.each_text_reads_or_has_a_bad_place.Goals as goal
 
 -- an answer is one value or one fault
@@ -20,7 +20,8 @@ one_fault r e f h k = cc
 
 pub returns : goal.returns
 returns c = λ layout text. record {
-    some = either (reading_of layout text) (reading_of layout text) refl;
-    one = apart (reading_of layout text);
-    instance = one_value (reading_of layout text);
-    fault = one_fault (reading_of layout text) }
+  some = either (reading_of layout text) (reading_of layout text) refl;
+  one = apart (reading_of layout text);
+  instance = one_value (reading_of layout text);
+  fault = one_fault (reading_of layout text);
+}

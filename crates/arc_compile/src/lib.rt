@@ -1,0 +1,10 @@
+//! From an instance to the graphs of its types of bins.
+#![tactic(auto)]
+
+mod forms;
+mod pieces;
+mod ranks;
+mod sizes;
+
+pub use pieces::pieces_of;
+pub use sizes::level_size;
