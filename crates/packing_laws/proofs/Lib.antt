@@ -7,6 +7,7 @@ pub mod BestType
 pub mod PackedItems
 pub mod OneUnitBins
 pub mod SingleLaw
+pub mod WrittenPackings
 pub mod Merging
 pub mod TidyOrders
 pub mod Rearranged

@@ -2,6 +2,7 @@
 #![tactic(auto)]
 
 mod apart;
+mod checks;
 mod costs;
 mod fault;
 mod floors;
@@ -12,11 +13,12 @@ mod numbers;
 mod packings;
 mod places;
 mod single;
-mod tidying;
 #[cfg(test)]
 mod tests;
+mod tidying;
 
 pub use apart::units_apart;
+pub use checks::{fits, is_packing};
 pub use costs::cost;
 pub use fault::ReadFault;
 pub use floors::material_bound;
