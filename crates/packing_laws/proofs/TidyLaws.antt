@@ -132,10 +132,10 @@ module _ (old new : List Bin) (tidied : IsTidied old new) where
       sum_by-flat_map of_item content (bins_of new)
       ∙ total (λ b. count_of_item i b.1) (λ b c alike. same-item i b.1 c.1 alike.1)
       ∙ sum_by-filter (λ b. count_of_item i b.1) (λ b. nat_lt 0 (units_in b.1)) (bins_of old)
-        (λ b none.
-          let some : units_in b.1 ≤ 0 = ltb-false 0 (units_in b.1) none in
-          let less : count_of_item i b.1 ≤ units_in b.1 = sum_by-le-sum_by of_item (λ (m : Count). m.count) b.1 (λ k d within. cond-below ((get_or b.1 k d).item == i) (get_or b.1 k d).count) in
-          omega arith)
+      (λ b none.
+      let some : units_in b.1 ≤ 0 = ltb-false 0 (units_in b.1) none in
+      let less : count_of_item i b.1 ≤ units_in b.1 = sum_by-le-sum_by of_item (λ (m : Count). m.count) b.1 (λ k d within. cond-below ((get_or b.1 k d).item == i) (get_or b.1 k d).count) in
+      omega arith)
       ∙ sym (sum_by-flat_map of_item content (bins_of old))
 
   pub tidied-packing : (I : InstanceValue) → IsWrittenPacking I old → IsWrittenPacking I new

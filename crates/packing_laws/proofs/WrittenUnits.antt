@@ -35,8 +35,8 @@ units-by_item n (m ∷ c) among =
     let first : m.count ≤ sum_to (λ i. cond (m.item == i) m.count 0) n = sum_to-term m.item m.count n here.0 here.1 in
     let both : sum_to (λ i. cond (m.item == i) m.count 0 + count_of_item i c) n ≡ sum_to (λ i. cond (m.item == i) m.count 0) n + sum_to (λ i. count_of_item i c) n = sum_to-add (λ i. cond (m.item == i) m.count 0) (λ i. count_of_item i c) n in
     let parts : sum_to (λ i. cond (m.item == i) m.count 0 + count_of_item i c) n ≤ sum_to (λ i. count_of_item i (m ∷ c)) n =
-      sum_to-le (λ i. cond (m.item == i) m.count 0 + count_of_item i c) (λ i. count_of_item i (m ∷ c)) n
-      (λ i low high. let e : count_of_item i (m ∷ c) ≡ cond (m.item == i) m.count 0 + count_of_item i c = sum_by-cons (λ (x : Count). cond (x.item == i) x.count 0) m c in omega arith) in
+    sum_to-le (λ i. cond (m.item == i) m.count 0 + count_of_item i c) (λ i. count_of_item i (m ∷ c)) n
+    (λ i low high. let e : count_of_item i (m ∷ c) ≡ cond (m.item == i) m.count 0 + count_of_item i c = sum_by-cons (λ (x : Count). cond (x.item == i) x.count 0) m c in omega arith) in
     let whole : units_in (m ∷ c) ≡ m.count + units_in c = sum_by-cons (λ (x : Count). x.count) m c in
     omega arith
 
@@ -58,7 +58,7 @@ written-units I bins inside written =
     let joined : units_in (all_of P) ≡ sum_by (λ b. units_in b.1) P = sum_by-flat_map (λ (m : Count). m.count) (λ (b : ℕ × Content). b.1) P in
     let by_item : units_in (all_of P) ≤ sum_to (λ i. count_of_item i (all_of P)) n = units-by_item n (all_of P) (all-exist I P written.packing.fits) in
     let met : sum_to (λ i. count_of_item i (all_of P)) n ≤ sum_to demand n =
-      sum_to-le (λ i. count_of_item i (all_of P)) demand n (λ i low high. let e : count_of_item i (all_of P) ≡ demand i = written.packing.demands i (low, high) in omega arith) in
+    sum_to-le (λ i. count_of_item i (all_of P)) demand n (λ i low high. let e : count_of_item i (all_of P) ≡ demand i = written.packing.demands i (low, high) in omega arith) in
     let asked : sum_by (λ (x : Item). x.demand) (take n I.items) ≡ sum_to demand n = sum_by-by_number (λ (x : Item). x.demand) I.items (record { demand = 0; forms = [] }) n (omega arith) in
     let whole : sum_by (λ (x : Item). x.demand) (take n I.items) ≡ sum_by (λ (x : Item). x.demand) I.items = ap (λ (l : List Item). sum_by (λ (x : Item). x.demand) l) (take_all n I.items (omega arith)) in
     let most : sum_by (λ (x : Item). x.demand) I.items ≤ n * MAX_DEMAND = sum_by-le (λ (x : Item). x.demand) MAX_DEMAND I.items (λ k d within. (inside.items k d within).demand) in

@@ -12,9 +12,9 @@ mod numbers;
 mod packings;
 mod places;
 mod single;
-mod tidying;
 #[cfg(test)]
 mod tests;
+mod tidying;
 
 pub use apart::units_apart;
 pub use costs::cost;
