@@ -14,3 +14,4 @@ pub mod Rearranged
 pub mod TidyParts
 pub mod SameContents
 pub mod TidyLaws
+pub mod WrittenUnits

@@ -24,7 +24,7 @@ pub use fault::ReadFault;
 pub use floors::material_bound;
 pub use instances::{BinType, Instance, Item};
 pub use laws::{
-    best_type_gives_floor, floors_come_out, material_is_floor, no_place_no_packing,
+    best_type_gives_floor, floors_come_out, material_is_floor, no_place_no_packing, packings_fit,
     single_is_reached,
 };
 pub use numbers::{Numbers, Vectors};

@@ -1,9 +1,11 @@
 //! Values from worked instances.
 
+ghost use Rattle.std.specs.Prelude.{◌≡◌, IfOk};
+
 use crate::{
     Bin, BinType, Count, Counts, Instance, Item, Numbers, Packing, Vectors, best_type_gives_floor,
     cost, fits, floors_come_out, homeless_item, is_packing, material_bound, material_is_floor,
-    no_place_no_packing, single_cost, single_is_reached, units_apart,
+    no_place_no_packing, packings_fit, single_cost, single_is_reached, tidy, units_apart,
 };
 use arc_num::Memory;
 use std::alloc::Global;
@@ -302,5 +304,76 @@ fn laws_hold() {
     best_type_gives_floor();
     no_place_no_packing();
     single_is_reached();
+    packings_fit();
     floors_come_out();
+}
+
+fn count_of(item: u32, form: u32, count: u32) -> Count
+    ensures { result ≡ record { item = item; form = form; count = count } }
+{
+    Count { item, form, count }
+}
+
+fn bin(alloc: Global, bin_type: u32, times: u32, counts: &[Count]) -> Result<Bin, Memory>
+    ensures { IfOk result (λ b. b ≡ record { bin_type = bin_type; times = times; counts = counts.now }) }
+{
+    Ok(Bin {
+        bin_type,
+        times,
+        counts: Counts::new(Vec::from_slice(alloc, counts)?),
+    })
+}
+
+fn are_equal(left: &[Bin], right: &[Bin]) -> bool {
+    if left.len() != right.len() {
+        return false;
+    }
+    for (a, b) in left.iter().zip(right.iter()) {
+        if a.bin_type != b.bin_type || a.times != b.times {
+            return false;
+        }
+        if a.counts.as_slice() != b.counts.as_slice() {
+            return false;
+        }
+    }
+    true
+}
+
+#[test]
+fn two_alike_and_an_empty_one(rt: HostRuntime) -> Result<(), Fail> {
+    let alloc = rt.alloc();
+    let bins = vec![in alloc;
+        bin(alloc, 1, 1, &[count_of(1, 1, 1)])?,
+        bin(alloc, 1, 1, &[])?,
+        bin(alloc, 1, 1, &[count_of(1, 1, 1)])?,
+    ]?;
+    let mut packing = Packing::new(bins);
+    tidy(&mut packing)?;
+    let expected = vec![in alloc; bin(alloc, 1, 2, &[count_of(1, 1, 1)])?]?;
+    assert!(rt; are_equal(packing.bins(), expected.as_slice()));
+    Ok(())
+}
+
+#[test]
+fn counts_and_bins_out_of_order(rt: HostRuntime) -> Result<(), Fail> {
+    let alloc = rt.alloc();
+    let mixed = [
+        count_of(2, 1, 1),
+        count_of(1, 1, 2),
+        count_of(2, 1, 1),
+        count_of(1, 2, 0),
+    ];
+    let bins = vec![in alloc;
+        bin(alloc, 2, 1, &mixed)?,
+        bin(alloc, 1, 3, &[count_of(1, 1, 1)])?,
+        bin(alloc, 1, 0, &[count_of(1, 1, 5)])?,
+    ]?;
+    let mut packing = Packing::new(bins);
+    tidy(&mut packing)?;
+    let expected = vec![in alloc;
+        bin(alloc, 1, 3, &[count_of(1, 1, 1)])?,
+        bin(alloc, 2, 1, &[count_of(1, 1, 2), count_of(2, 1, 2)])?,
+    ]?;
+    assert!(rt; are_equal(packing.bins(), expected.as_slice()));
+    Ok(())
 }
