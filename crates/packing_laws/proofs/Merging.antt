@@ -1,5 +1,5 @@
 -- A list in which neighbours that are alike become one: what it keeps, and its order.
-use Rattle.std.proofs.Common.{zero, suc, ◌≡◌, ℕ, ◌+◌, ◌<◌, ◌≤◌, ◌∙◌, List, [], ◌∷◌, ◌++◌, Bool, true, false, length, sum_by, All, refl, sym, ap, arith, get_or, append_assoc, append-nil}
+use Rattle.std.proofs.Common.{zero, suc, ◌≡◌, ℕ, ◌+◌, ◌∙◌, List, [], ◌∷◌, ◌++◌, true, false, sum_by, All, refl, sym, ap, arith, get_or, append_assoc, append-nil}
 use Rattle.std.specs.List.{fold, flat_map, AllPairs}
 use Rattle.std.specs.List.Sorted.{IsStrictlySortedBy, IsSorted}
 use Rattle.std.specs.Cmp.{IsTotalOrder}

@@ -1,5 +1,5 @@
 -- What is made of a list in another order, and bins that are alike in another order.
-use Rattle.std.proofs.Common.{zero, suc, ◌≡◌, ℕ, ◌+◌, ◌<◌, ◌≤◌, ◌∙◌, List, [], ◌∷◌, ◌++◌, inl, inr, length, replicate, refl, sym, ap, subst, arith, get_or, set, append_assoc, IsPermutation}
+use Rattle.std.proofs.Common.{zero, suc, ◌≡◌, ℕ, ◌<◌, ◌∙◌, List, [], ◌∷◌, ◌++◌, inl, inr, length, replicate, refl, sym, ap, subst, arith, get_or, set, append_assoc, IsPermutation}
 use Rattle.std.specs.List.{flat_map, swap}
 use Rattle.std.specs.List.Sorted.{SwapsInRange, apply_swaps}
 use Rattle.std.proofs.lemmas.Bool.{cases_order}

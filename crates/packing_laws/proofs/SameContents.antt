@@ -1,11 +1,11 @@
 -- Contents with as many of each form: what is counted over the forms is the same of both.
-use Rattle.std.proofs.Common.{zero, suc, ◌≡◌, ℕ, ◌+◌, ◌*◌, ◌<◌, ◌≤◌, ◌∙◌, List, [], ◌∷◌, Bool, true, false, cond, not, ◌==◌, ◌&&◌, length, filter, sum_by, slice_index, ◌-◌, refl, sym, ap, arith}
+use Rattle.std.proofs.Common.{zero, suc, ◌≡◌, ℕ, ◌+◌, ◌*◌, ◌≤◌, ◌∙◌, [], ◌∷◌, Bool, true, false, cond, not, ◌==◌, ◌&&◌, length, filter, sum_by, slice_index, ◌-◌, refl, sym, ap, arith}
 use Rattle.std.proofs.lemmas.Bool.{cond_both, cond-true, cond-false, and_from, and_parts, eqb-true, eq-eqb, not_from_true, not-true, not-false}
 use Rattle.std.proofs.lemmas.List.Sums.{sum_by-cons}
 use Rattle.std.proofs.Math.Nat.{add-mul}
 use Rattle.packing_laws.specs.declared.packings.Count.{Count}
 use Rattle.packing_laws.specs.Instances.{InstanceValue, form_at}
-use Rattle.packing_laws.specs.Packings.{Content, count_of_item, count_of_form, weight_in}
+use Rattle.packing_laws.specs.Packings.{Content, count_of_item, weight_in}
 use Rattle.packing_laws.specs.Printed.{SameContent, units_in}
 
 -- the counts, each times a weight of its form, added up

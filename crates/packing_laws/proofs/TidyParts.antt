@@ -1,9 +1,8 @@
 -- Contents in the printed form, the lines of bins, and the printed form of a packing.
 use Rattle.std.proofs.Common.{zero, suc, ◌≡◌, ℕ, ◌+◌, ◌<◌, ◌≤◌, ◌∙◌, List, [], ◌∷◌, ◌++◌, Bool, true, false, cond, ◌==◌, ◌&&◌, nat_lt, length, map, replicate, filter, sum_by, All, IsPermutation, refl, sym, ap, subst, arith, append-nil, ◌⊎◌, ⊎_elim}
-use Rattle.std.specs.List.{flat_map}
-use Rattle.std.specs.List.Sorted.{IsSorted, IsStrictlySortedBy}
+use Rattle.std.specs.List.Sorted.{IsSorted}
 use Rattle.std.specs.declared.cmp.Ordering.TheVariants.{Equal}
-use Rattle.std.proofs.lemmas.Bool.{cases_Bool, cond-true, cond-false, cond_both, ltb-true, ltb-false, lt-ltb, le-ltb}
+use Rattle.std.proofs.lemmas.Bool.{cond-true, cond-false, cond_both, ltb-true, ltb-false, lt-ltb, le-ltb}
 use Rattle.std.proofs.lemmas.List.{map_push, replicate-append-replicate}
 use Rattle.std.proofs.lemmas.List.Concat.{flat_map-append}
 use Rattle.std.proofs.lemmas.List.Elements.{All-push, All-weaker, filter-append, filter_passes, All-head}
@@ -12,7 +11,7 @@ use Rattle.std.proofs.lemmas.List.Sorted.{All-permutation, sum_by-IsPermutation,
 use Rattle.packing_laws.specs.declared.packings.Count.{Count}
 use Rattle.packing_laws.specs.declared.packings.Bin.{Bin}
 use Rattle.packing_laws.specs.declared.tidying.Line.{Line}
-use Rattle.packing_laws.specs.Packings.{Content, Bins, count_of_form}
+use Rattle.packing_laws.specs.Packings.{Content, Bins}
 use Rattle.packing_laws.specs.Printed.{bins_of, filled_bins, units_in, is_filled, form_cmp, count_cmp, bin_cmp, SameContent, AreAlike, IsTidyContent, IsTidyBin, IsTidied}
 use Rattle.packing_laws.specs.Tidying.{merged, joined_count, joined_bin, bin_of}
 use Rattle.packing_laws.proofs.Merging.{sum_by-merged, flat_map-merged, All-merged, strict-merged}

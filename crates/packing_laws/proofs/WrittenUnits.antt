@@ -1,6 +1,6 @@
 -- How many units a written packing holds, and that the sums of its printed form fit.
-use Rattle.std.proofs.Common.{zero, suc, ◌≡◌, ℕ, ◌+◌, ◌-◌, ◌*◌, ◌^◌, ◌<◌, ◌≤◌, ◌∙◌, inl, inr, List, [], ◌∷◌, ◌++◌, Bool, true, false, cond, ◌==◌, nat_lt, length, take, sum_by, All, refl, sym, ap, arith, get_or, take_all}
-use Rattle.std.proofs.lemmas.Bool.{cases_Bool, cases_eq, cond-true, cond-false, eq-eqb, ne_eqb, ltb-true}
+use Rattle.std.proofs.Common.{zero, suc, ◌≡◌, ℕ, ◌+◌, ◌*◌, ◌≤◌, inl, inr, List, [], ◌∷◌, cond, ◌==◌, nat_lt, length, take, sum_by, All, ap, arith, get_or, take_all}
+use Rattle.std.proofs.lemmas.Bool.{cases_Bool, cases_eq, cond-true, cond-false, eq-eqb, ltb-true}
 use Rattle.std.proofs.lemmas.List.Elements.{All-append, All-nil}
 use Rattle.std.proofs.lemmas.List.Sums.{sum_by-cons, sum_by-le, get_or-le-sum_by}
 use Rattle.std.proofs.Math.Nat.{mul-le-mul_left, mul-le-mul_right}
@@ -9,8 +9,8 @@ use Rattle.packing_laws.specs.declared.instances.Item.{Item}
 use Rattle.packing_laws.specs.declared.packings.Count.{Count}
 use Rattle.packing_laws.specs.declared.packings.Bin.{Bin}
 use Rattle.packing_laws.specs.Instances.{InstanceValue, IsInstance, IsAmong, item_at}
-use Rattle.packing_laws.specs.Packings.{Content, Bins, Exists, Fits, all_of, count_of_item}
-use Rattle.packing_laws.specs.Printed.{bins_of, units_in, is_filled, IsWrittenPacking, SumsFit, PackingsFit}
+use Rattle.packing_laws.specs.Packings.{Content, Bins, Fits, all_of, count_of_item}
+use Rattle.packing_laws.specs.Printed.{bins_of, units_in, is_filled, IsWrittenPacking, PackingsFit}
 use Rattle.packing_laws.proofs.Sums.{All-first, All-others, sum_by-flat_map, sum_by-le-sum_by, sum_to, sum_to-add, sum_to-le, sum_by-by_number}
 use Rattle.packing_laws.proofs.WrittenSums.{sum_by-bins_of}
 
