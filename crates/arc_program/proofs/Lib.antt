@@ -2,3 +2,4 @@ pub mod ScanLemmas
 pub mod ScanSteps
 pub mod PrintLemmas
 pub mod RunLemmas
+pub mod ReportLemmas

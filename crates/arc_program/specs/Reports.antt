@@ -41,9 +41,12 @@ bins_in Infeasible = []
 abbrev pub answer_text : Answer → List ℕ
 answer_text answer = first_line answer ++ bins_text (bins_in answer)
 
--- the first line of the report on graphs
-abbrev pub sizes_line : InstanceValue → List ℕ
-sizes_line I = codes "dims " ++ decimal I.dims ++ codes " types " ++ decimal (length I.types) ++ codes " items " ++ decimal (length I.items) ++ codes " units " ++ decimal (units_of I) ++ codes "\n"
+-- the first line of the report on graphs, in two parts
+abbrev pub dims_and_types : InstanceValue → List ℕ
+dims_and_types I = codes "dims " ++ decimal I.dims ++ codes " types " ++ decimal (length I.types)
+
+abbrev pub items_and_units : InstanceValue → List ℕ
+items_and_units I = codes " items " ++ decimal (length I.items) ++ codes " units " ++ decimal (units_of I) ++ codes "\n"
 
 -- a line for the level graph of type t, with its nodes and arcs
 abbrev pub level_line : ℕ → ℕ × ℕ → List ℕ
@@ -56,4 +59,4 @@ level_lines t (level ∷ levels) = level_line t level ++ level_lines (t + 1) lev
 
 -- the report on the level graphs of an instance
 abbrev pub levels_text : InstanceValue → List (ℕ × ℕ) → List ℕ
-levels_text I levels = sizes_line I ++ level_lines 1 levels
+levels_text I levels = dims_and_types I ++ items_and_units I ++ level_lines 1 levels

@@ -1,7 +1,7 @@
 //! The texts of reports.
 
 ghost use Rattle.std.specs.Prelude.{◌≡◌, ◌++◌, OnOk, IfOk};
-ghost use Rattle.arc_program.specs.Reports.{count_text, counts_text, bin_text, bins_text, bins_in, first_line, answer_text, sizes_line, level_line, level_lines, levels_text};
+ghost use Rattle.arc_program.specs.Reports.{count_text, counts_text, bin_text, bins_text, bins_in, first_line, answer_text, dims_and_types, items_and_units, level_line, level_lines, levels_text};
 
 use crate::answers::Answer;
 use arc_num::{Memory, push_number};
@@ -101,13 +101,18 @@ pub fn solve_text(alloc: Global, answer: &Answer) -> Result<Vec<u8>, Memory>
     Ok(out)
 }
 
-fn push_sizes_line(out: &mut Vec<u8>, instance: &Instance) -> Result<(), Memory>
-    ensures { OnOk result (out.new.items ≡ out.old.items ++ sizes_line instance.now) }
+fn push_dims_and_types(out: &mut Vec<u8>, instance: &Instance) -> Result<(), Memory>
+    ensures { OnOk result (out.new.items ≡ out.old.items ++ dims_and_types instance.now) }
 {
     push_bytes(out, b"dims ")?;
     push_number(out, u128::from(instance.dims()))?;
     push_bytes(out, b" types ")?;
-    push_number(out, u128::from(instance.type_count()))?;
+    push_number(out, u128::from(instance.type_count()))
+}
+
+fn push_items_and_units(out: &mut Vec<u8>, instance: &Instance) -> Result<(), Memory>
+    ensures { OnOk result (out.new.items ≡ out.old.items ++ items_and_units instance.now) }
+{
     push_bytes(out, b" items ")?;
     push_number(out, u128::from(instance.item_count()))?;
     push_bytes(out, b" units ")?;
@@ -145,7 +150,8 @@ pub fn compile_text(
     ensures { IfOk result (λ text. text.items ≡ levels_text instance.now levels.now) }
 {
     let mut out = Vec::new(alloc);
-    push_sizes_line(&mut out, instance)?;
+    push_dims_and_types(&mut out, instance)?;
+    push_items_and_units(&mut out, instance)?;
     push_level_lines(&mut out, levels)?;
     Ok(out)
 }

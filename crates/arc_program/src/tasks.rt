@@ -3,8 +3,8 @@
 ghost use Rattle.std.specs.Prelude.{◌≡◌, ◌↔◌, IfOk, IfSome, IsSome};
 ghost use Rattle.arc_compile.specs.Levels.{AreLevelSizes};
 ghost use Rattle.packing_laws.specs.Packings.{cost_of};
-ghost use Rattle.packing_laws.specs.Printed.{bins_of};
-ghost use Rattle.packing_laws.specs.Floors.{HasSingle};
+ghost use Rattle.packing_laws.specs.Printed.{bins_of, IsTidy, IsWrittenPacking};
+ghost use Rattle.packing_laws.specs.Floors.{HasSingle, HasOneUnitEach};
 ghost use Rattle.arc_program.specs.Words.{request_of};
 ghost use Rattle.arc_program.specs.Answers.{IsAnswer, IsUnitPacking};
 ghost use Rattle.arc_program.specs.Reports.{answer_text};
@@ -45,18 +45,31 @@ impl Answer {
     }
 }
 
+/// The printed form of a packing with one unit to a bin.
+fn tidied(instance: &Instance, mut packing: Packing) -> Result<Packing, Memory>
+    requires written { IsWrittenPacking instance.now packing }
+    requires one_each { HasOneUnitEach (bins_of packing) }
+    ensures tidy { IfOk result IsTidy }
+    ensures packing { IfOk result (IsWrittenPacking instance.now) }
+    ensures one_each { IfOk result (λ tidy. HasOneUnitEach (bins_of tidy)) }
+    ensures cost { IfOk result (λ tidy. cost_of instance.now (bins_of tidy) ≡ cost_of instance.now (bins_of packing)) }
+{
+    instance.known();
+    packings_fit();
+    tidy(&mut packing)?;
+    Ok(packing)
+}
+
 /// A packing in the printed form with one unit to a bin, at the single cost, where that exists.
 fn unit_packing(alloc: Global, instance: &Instance) -> Result<Option<Packing>, Memory>
     ensures exists { IfOk result (λ found. IsSome found ↔ HasSingle instance.now) }
     ensures packing { IfOk result (λ found. IfSome found (λ packing. IsUnitPacking instance.now (cost_of instance.now (bins_of packing)) packing)) }
 {
-    let Some(mut packing) = units_apart(alloc, instance)? else {
-        return Ok(None);
-    };
-    instance.known();
-    packings_fit();
-    tidy(&mut packing)?;
-    Ok(Some(packing))
+    match units_apart(alloc, instance) {
+        Ok(Some(packing)) => Ok(Some(tidied(instance, packing)?)),
+        Ok(None) => Ok(None),
+        Err(memory) => Err(memory),
+    }
 }
 
 /// The answer with a packing at the single cost.
@@ -83,6 +96,7 @@ fn answer_of(alloc: Global, instance: &Instance) -> Result<Answer, Memory>
     ensures { IfOk result (IsAnswer instance.now) }
 {
     if homeless_item(instance).is_some() {
+        instance.known();
         no_place_no_packing();
         return Ok(Answer::Infeasible);
     }

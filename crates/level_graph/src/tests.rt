@@ -15,7 +15,7 @@ fn are_pieces<const N: usize>(pieces: &[Piece<N>], cap: &Weights<N>) -> bool
     requires small { N ≤ 32 }
     ensures { IsTrue result → IsPieceList pieces.now cap.now }
 {
-    if pieces.len() > MAX_ALL_FORMS {
+    if pieces.len() > MAX_ALL_FORMS as usize {
         return false;
     }
     for index in 0..pieces.len() {

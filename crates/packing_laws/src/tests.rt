@@ -314,7 +314,7 @@ fn count_of(item: u32, form: u32, count: u32) -> Count
     Count { item, form, count }
 }
 
-fn bin(alloc: Global, bin_type: u32, times: u32, counts: &[Count]) -> Result<Bin, Memory>
+fn counted_bin(alloc: Global, bin_type: u32, times: u32, counts: &[Count]) -> Result<Bin, Memory>
     ensures { IfOk result (λ b. b ≡ record { bin_type = bin_type; times = times; counts = counts.now }) }
 {
     Ok(Bin {
@@ -343,13 +343,13 @@ fn are_equal(left: &[Bin], right: &[Bin]) -> bool {
 fn two_alike_and_an_empty_one(rt: HostRuntime) -> Result<(), Fail> {
     let alloc = rt.alloc();
     let bins = vec![in alloc;
-        bin(alloc, 1, 1, &[count_of(1, 1, 1)])?,
-        bin(alloc, 1, 1, &[])?,
-        bin(alloc, 1, 1, &[count_of(1, 1, 1)])?,
+        counted_bin(alloc, 1, 1, &[count_of(1, 1, 1)])?,
+        counted_bin(alloc, 1, 1, &[])?,
+        counted_bin(alloc, 1, 1, &[count_of(1, 1, 1)])?,
     ]?;
     let mut packing = Packing::new(bins);
     tidy(&mut packing)?;
-    let expected = vec![in alloc; bin(alloc, 1, 2, &[count_of(1, 1, 1)])?]?;
+    let expected = vec![in alloc; counted_bin(alloc, 1, 2, &[count_of(1, 1, 1)])?]?;
     assert!(rt; are_equal(packing.bins(), expected.as_slice()));
     Ok(())
 }
@@ -364,15 +364,15 @@ fn counts_and_bins_out_of_order(rt: HostRuntime) -> Result<(), Fail> {
         count_of(1, 2, 0),
     ];
     let bins = vec![in alloc;
-        bin(alloc, 2, 1, &mixed)?,
-        bin(alloc, 1, 3, &[count_of(1, 1, 1)])?,
-        bin(alloc, 1, 0, &[count_of(1, 1, 5)])?,
+        counted_bin(alloc, 2, 1, &mixed)?,
+        counted_bin(alloc, 1, 3, &[count_of(1, 1, 1)])?,
+        counted_bin(alloc, 1, 0, &[count_of(1, 1, 5)])?,
     ]?;
     let mut packing = Packing::new(bins);
     tidy(&mut packing)?;
     let expected = vec![in alloc;
-        bin(alloc, 1, 3, &[count_of(1, 1, 1)])?,
-        bin(alloc, 2, 1, &[count_of(1, 1, 2), count_of(2, 1, 2)])?,
+        counted_bin(alloc, 1, 3, &[count_of(1, 1, 1)])?,
+        counted_bin(alloc, 2, 1, &[count_of(1, 1, 2), count_of(2, 1, 2)])?,
     ]?;
     assert!(rt; are_equal(packing.bins(), expected.as_slice()));
     Ok(())
