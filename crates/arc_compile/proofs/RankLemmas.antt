@@ -48,18 +48,18 @@ module _ {N : ℕ} where
   -- one more form that fits
   pub forms_push : (i : ℕ) (x : Item) (cap : List ℕ) (f : ℕ) (old new : List (Ranked N)) (rank : Ranked N) → vector_fits (form_of x (f + 1)) cap ≡ true → rank.item ≡ i → rank.form ≡ f + 1 → rank.weight.0 ≡ padded N (form_of x (f + 1)) → AddsForms i x cap f old new → AddsForms i x cap (f + 1) old (new ++ rank ∷ [])
   forms_push i x cap f old new rank fits ri rf rw h r = (
-      λ m. ⊎_elim
+    λ m. ⊎_elim
         (λ before. ⊎_elim (λ o. inl o) (λ k. inr (more_forms i x cap f r k)) ((h r).0 before))
         (λ e. inr (subst (λ (q : Ranked N). IsRankedOf i x cap (f + 1) q) e is_new))
         (Contains-push_cases new rank r m),
-      λ m. ⊎_elim
+    λ m. ⊎_elim
         (λ o. Contains-append_left new (rank ∷ []) r ((h r).1 (inl o)))
         (λ k. ⊎_elim
-          (λ lt. subst (λ (q : Ranked N). Contains (new ++ rank ∷ []) q) (at_new k lt) (Contains-push new rank))
-          (λ le. Contains-append_left new (rank ∷ []) r ((h r).1 (inr (fewer_forms i x cap f r le k))))
-          (cases_lt f r.form))
+        (λ lt. subst (λ (q : Ranked N). Contains (new ++ rank ∷ []) q) (at_new k lt) (Contains-push new rank))
+        (λ le. Contains-append_left new (rank ∷ []) r ((h r).1 (inr (fewer_forms i x cap f r le k))))
+        (cases_lt f r.form))
         m,
-    )
+  )
     where
       is_new : IsRankedOf i x cap (f + 1) rank
       is_new = record {
@@ -68,6 +68,7 @@ module _ {N : ℕ} where
         fits = subst (λ (g : ℕ). vector_fits (form_of x g) cap ≡ true) (sym rf) fits;
         weighs = subst (λ (g : ℕ). rank.weight.0 ≡ padded N (form_of x g)) (sym rf) rw;
       }
+
       at_new : IsRankedOf i x cap (f + 1) r → f < r.form → rank ≡ r
       at_new k lt =
           let e : r.form ≡ f + 1 = omega (arith, k.form_is.1) in
@@ -76,15 +77,15 @@ module _ {N : ℕ} where
   -- one more form that does not fit
   pub forms_skip : (i : ℕ) (x : Item) (cap : List ℕ) (f : ℕ) (old new : List (Ranked N)) → vector_fits (form_of x (f + 1)) cap ≡ false → AddsForms i x cap f old new → AddsForms i x cap (f + 1) old new
   forms_skip i x cap f old new unfit h r = (
-      λ m. ⊎_elim (λ o. inl o) (λ k. inr (more_forms i x cap f r k)) ((h r).0 m),
-      λ m. ⊎_elim
+    λ m. ⊎_elim (λ o. inl o) (λ k. inr (more_forms i x cap f r k)) ((h r).0 m),
+    λ m. ⊎_elim
         (λ o. (h r).1 (inl o))
         (λ k. ⊎_elim
-          (λ lt. absurd (clash k lt))
-          (λ le. (h r).1 (inr (fewer_forms i x cap f r le k)))
-          (cases_lt f r.form))
+        (λ lt. absurd (clash k lt))
+        (λ le. (h r).1 (inr (fewer_forms i x cap f r le k)))
+        (cases_lt f r.form))
         m,
-    )
+  )
     where
       clash : IsRankedOf i x cap (f + 1) r → f < r.form → ⊥
       clash k lt =
@@ -97,12 +98,12 @@ module _ {N : ℕ} where
   -- one more item with a demand
   pub items_push : (I : InstanceValue) (t i : ℕ) (x : Item) (old new : List (Ranked N)) → item_at I (i + 1) ≡ x → 0 < x.demand → AreRanked I t i old → AddsForms (i + 1) x (type_at I t).cap (length x.forms) old new → AreRanked I t (i + 1) new
   items_push I t i x old new at demand h a r = (
-      λ m. ⊎_elim (λ o. more_items I t i r ((h r).0 o)) (λ k. is_new k) ((a r).0 m),
-      λ k. ⊎_elim
+    λ m. ⊎_elim (λ o. more_items I t i r ((h r).0 o)) (λ k. is_new k) ((a r).0 m),
+    λ k. ⊎_elim
         (λ lt. (a r).1 (inr (of_new k lt)))
         (λ le. (a r).1 (inl ((h r).1 (record { item_is = (k.item_is.0, le); demanded = k.demanded; ranked = k.ranked }))))
         (cases_lt i r.item),
-    )
+  )
     where
       is_new : IsRankedOf (i + 1) x (type_at I t).cap (length x.forms) r → IsRanked I t (i + 1) r
       is_new k =
@@ -112,6 +113,7 @@ module _ {N : ℕ} where
             demanded = subst (λ (y : Item). 0 < y.demand) (sym there) demand;
             ranked = subst (λ (y : Item). IsRankedOf r.item y (type_at I t).cap (length y.forms) r) (sym there) (record { item_is = refl; form_is = k.form_is; fits = k.fits; weighs = k.weighs });
           }
+
       of_new : IsRanked I t (i + 1) r → i < r.item → IsRankedOf (i + 1) x (type_at I t).cap (length x.forms) r
       of_new k lt =
           let e : r.item ≡ i + 1 = omega (arith, k.item_is.1) in
@@ -122,12 +124,12 @@ module _ {N : ℕ} where
   -- one more item without a demand
   pub items_skip : (I : InstanceValue) (t i : ℕ) (x : Item) (old : List (Ranked N)) → item_at I (i + 1) ≡ x → x.demand ≡ 0 → AreRanked I t i old → AreRanked I t (i + 1) old
   items_skip I t i x old at demand h r = (
-      λ m. more_items I t i r ((h r).0 m),
-      λ k. ⊎_elim
+    λ m. more_items I t i r ((h r).0 m),
+    λ k. ⊎_elim
         (λ lt. absurd (clash k lt))
         (λ le. (h r).1 (record { item_is = (k.item_is.0, le); demanded = k.demanded; ranked = k.ranked }))
         (cases_lt i r.item),
-    )
+  )
     where
       clash : IsRanked I t (i + 1) r → i < r.item → ⊥
       clash k lt =

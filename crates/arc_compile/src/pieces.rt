@@ -60,6 +60,7 @@ pub fn pieces_of<const N: usize>(
     let Some(bin_type) = instance.bin_type(t) else {
         unreachable!()
     };
+    instance.known();
     let ranked = ranked_forms(alloc, instance, bin_type.cap.as_slice())?;
     with_copies(alloc, instance, ranked.as_slice())
 }

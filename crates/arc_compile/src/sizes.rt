@@ -24,6 +24,7 @@ fn sized<const N: usize>(alloc: Global, instance: &Instance, t: u32) -> Result<(
     let Some(cap) = Weights::<N>::pad_from(bin_type.cap.as_slice()) else {
         unreachable!()
     };
+    instance.known();
     let pieces = pieces_of::<N>(alloc, instance, t)?;
     level_counts(alloc, pieces.as_slice(), &cap)
 }

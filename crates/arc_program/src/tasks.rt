@@ -19,7 +19,7 @@ use arc_compile::level_size;
 use arc_num::Memory;
 use packing_laws::{
     Instance, Packing, cost, homeless_item, material_bound, material_is_floor, no_place_no_packing,
-    tidy, units_apart,
+    packings_fit, tidy, units_apart,
 };
 use std::alloc::Global;
 
@@ -54,6 +54,7 @@ fn unit_packing(alloc: Global, instance: &Instance) -> Result<Option<Packing>, M
         return Ok(None);
     };
     instance.known();
+    packings_fit();
     tidy(&mut packing)?;
     Ok(Some(packing))
 }

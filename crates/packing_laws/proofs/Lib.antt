@@ -7,9 +7,11 @@ pub mod BestType
 pub mod PackedItems
 pub mod OneUnitBins
 pub mod SingleLaw
+pub mod WrittenPackings
 pub mod Merging
 pub mod TidyOrders
 pub mod Rearranged
 pub mod TidyParts
 pub mod SameContents
 pub mod TidyLaws
+pub mod WrittenUnits

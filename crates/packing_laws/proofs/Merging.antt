@@ -1,5 +1,5 @@
 -- A list in which neighbours that are alike become one: what it keeps, and its order.
-use Rattle.std.proofs.Common.{zero, suc, ◌≡◌, ℕ, ◌+◌, ◌<◌, ◌≤◌, ◌∙◌, List, [], ◌∷◌, ◌++◌, Bool, true, false, length, sum_by, All, refl, sym, ap, arith, get_or, append_assoc, append-nil}
+use Rattle.std.proofs.Common.{zero, suc, ◌≡◌, ℕ, ◌+◌, ◌∙◌, List, [], ◌∷◌, ◌++◌, true, false, sum_by, All, refl, sym, ap, arith, get_or, append_assoc, append-nil}
 use Rattle.std.specs.List.{fold, flat_map, AllPairs}
 use Rattle.std.specs.List.Sorted.{IsStrictlySortedBy, IsSorted}
 use Rattle.std.specs.Cmp.{IsTotalOrder}
@@ -115,9 +115,9 @@ module _ {X : Type 0} (order : X → X → Ordering) (join : X → X → X) wher
         cond_both (is_eq (order y x)) (join y x ∷ []) (y ∷ x ∷ []) (IsStrictlySortedBy order)
         (λ _. (tt, tt))
         (λ apart.
-          let back : order y x ≡ ordering_reverse (order x y) = o.antisymm y x in
-          let less : order y x ≡ Less = back ∙ above_reversed (order x y) (All-head (λ m. is_lt (order x m) ≡ false) y [] above) (ap is_eq (sym back) ∙ apart) in
-          ((less, tt), (tt, tt)))
+        let back : order y x ≡ ordering_reverse (order x y) = o.antisymm y x in
+        let less : order y x ≡ Less = back ∙ above_reversed (order x y) (All-head (λ m. is_lt (order x m) ≡ false) y [] above) (ap is_eq (sym back) ∙ apart) in
+        ((less, tt), (tt, tt)))
     strict-put_last (y ∷ z ∷ zs) x strict above =
         let rest : All (λ m. is_lt (order x m) ≡ false) (z ∷ zs) = All-tail (λ m. is_lt (order x m) ≡ false) y (z ∷ zs) above in
         let behind : All (λ w. order y w ≡ Less) (z ∷ zs) = All-from_recursion (λ w. order y w ≡ Less) (z ∷ zs) strict.0 in

@@ -1,5 +1,5 @@
 -- What is made of a list in another order, and bins that are alike in another order.
-use Rattle.std.proofs.Common.{zero, suc, ◌≡◌, ℕ, ◌+◌, ◌<◌, ◌≤◌, ◌∙◌, List, [], ◌∷◌, ◌++◌, inl, inr, length, replicate, refl, sym, ap, subst, arith, get_or, set, append_assoc, IsPermutation}
+use Rattle.std.proofs.Common.{zero, suc, ◌≡◌, ℕ, ◌<◌, ◌∙◌, List, [], ◌∷◌, ◌++◌, inl, inr, length, replicate, refl, sym, ap, subst, arith, get_or, set, append_assoc, IsPermutation}
 use Rattle.std.specs.List.{flat_map, swap}
 use Rattle.std.specs.List.Sorted.{SwapsInRange, apply_swaps}
 use Rattle.std.proofs.lemmas.Bool.{cases_order}
@@ -115,7 +115,8 @@ AreAlike-swaps P Q (m ∷ ms) alike = AreAlike-swap (apply_swaps P ms) (apply_sw
 -- where the second bins come in another order, so can the first
 pub AreAlike-rearranged : (P Q R : Bins) → AreAlike P Q → IsPermutation Q R → (S : Bins) × IsPermutation P S × AreAlike S R
 AreAlike-rearranged P Q R alike moved =
-    let same : length Q ≡ length P = sym (AreAlike-length P Q alike) in
-    (apply_swaps P moved.moves,
+    let same : length Q ≡ length P = sym (AreAlike-length P Q alike) in (
+      apply_swaps P moved.moves,
       record { moves = moved.moves; below = subst (λ (n : ℕ). SwapsInRange n moved.moves) same moved.below; is = refl },
-      subst (λ (l : Bins). AreAlike (apply_swaps P moved.moves) l) (sym moved.is) (AreAlike-swaps P Q moved.moves alike))
+      subst (λ (l : Bins). AreAlike (apply_swaps P moved.moves) l) (sym moved.is) (AreAlike-swaps P Q moved.moves alike),
+    )

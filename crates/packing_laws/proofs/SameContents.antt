@@ -1,11 +1,11 @@
 -- Contents with as many of each form: what is counted over the forms is the same of both.
-use Rattle.std.proofs.Common.{zero, suc, ◌≡◌, ℕ, ◌+◌, ◌*◌, ◌<◌, ◌≤◌, ◌∙◌, List, [], ◌∷◌, Bool, true, false, cond, not, ◌==◌, ◌&&◌, length, filter, sum_by, slice_index, ◌-◌, refl, sym, ap, arith}
+use Rattle.std.proofs.Common.{zero, suc, ◌≡◌, ℕ, ◌+◌, ◌*◌, ◌≤◌, ◌∙◌, [], ◌∷◌, Bool, true, false, cond, not, ◌==◌, ◌&&◌, length, filter, sum_by, slice_index, ◌-◌, refl, sym, ap, arith}
 use Rattle.std.proofs.lemmas.Bool.{cond_both, cond-true, cond-false, and_from, and_parts, eqb-true, eq-eqb, not_from_true, not-true, not-false}
 use Rattle.std.proofs.lemmas.List.Sums.{sum_by-cons}
 use Rattle.std.proofs.Math.Nat.{add-mul}
 use Rattle.packing_laws.specs.declared.packings.Count.{Count}
 use Rattle.packing_laws.specs.Instances.{InstanceValue, form_at}
-use Rattle.packing_laws.specs.Packings.{Content, count_of_item, count_of_form, weight_in}
+use Rattle.packing_laws.specs.Packings.{Content, count_of_item, weight_in}
 use Rattle.packing_laws.specs.Printed.{SameContent, units_in}
 
 -- the counts, each times a weight of its form, added up
@@ -35,23 +35,23 @@ weigh-apart w i f (n ∷ c) =
     let others : weigh w (n ∷ without i f c) ≡ n.count * w n.item n.form + weigh w (without i f c) = sum_by-cons (λ (m : Count). m.count * w m.item m.form) n (without i f c) in
     cond_both (not test) (n ∷ without i f c) (without i f c) (λ l. weigh w (n ∷ c) ≡ weigh (only i f) (n ∷ c) * w i f + weigh w l)
     (λ apart.
-      let zero_only : only i f n.item n.form ≡ 0 = cond-false test 1 0 (not-true test apart) in
-      let part : n.count * only i f n.item n.form ≡ n.count * 0 = ap (λ m. n.count * m) zero_only in
-      let same : weigh (only i f) (n ∷ c) ≡ weigh (only i f) c = omega arith in
-      let scaled : weigh (only i f) (n ∷ c) * w i f ≡ weigh (only i f) c * w i f = ap (λ m. m * w i f) same in
-      omega arith)
+    let zero_only : only i f n.item n.form ≡ 0 = cond-false test 1 0 (not-true test apart) in
+    let part : n.count * only i f n.item n.form ≡ n.count * 0 = ap (λ m. n.count * m) zero_only in
+    let same : weigh (only i f) (n ∷ c) ≡ weigh (only i f) c = omega arith in
+    let scaled : weigh (only i f) (n ∷ c) * w i f ≡ weigh (only i f) c * w i f = ap (λ m. m * w i f) same in
+    omega arith)
     (λ together.
-      let here : test ≡ true = not-false test together in
-      let keys = and_parts (n.item == i) (n.form == f) here in
-      let item : n.item ≡ i = eqb-true n.item i keys.0 in
-      let form : n.form ≡ f = eqb-true n.form f keys.1 in
-      let weight : n.count * w n.item n.form ≡ n.count * w i f = λ k. n.count * w (item k) (form k) in
-      let one : only i f n.item n.form ≡ 1 = cond-true test 1 0 here in
-      let part : n.count * only i f n.item n.form ≡ n.count * 1 = ap (λ m. n.count * m) one in
-      let more : weigh (only i f) (n ∷ c) ≡ n.count + weigh (only i f) c = omega arith in
-      let scaled : weigh (only i f) (n ∷ c) * w i f ≡ (n.count + weigh (only i f) c) * w i f = ap (λ m. m * w i f) more in
-      let spread : (n.count + weigh (only i f) c) * w i f ≡ n.count * w i f + weigh (only i f) c * w i f = add-mul n.count (weigh (only i f) c) (w i f) in
-      omega arith)
+    let here : test ≡ true = not-false test together in
+    let keys = and_parts (n.item == i) (n.form == f) here in
+    let item : n.item ≡ i = eqb-true n.item i keys.0 in
+    let form : n.form ≡ f = eqb-true n.form f keys.1 in
+    let weight : n.count * w n.item n.form ≡ n.count * w i f = λ k. n.count * w (item k) (form k) in
+    let one : only i f n.item n.form ≡ 1 = cond-true test 1 0 here in
+    let part : n.count * only i f n.item n.form ≡ n.count * 1 = ap (λ m. n.count * m) one in
+    let more : weigh (only i f) (n ∷ c) ≡ n.count + weigh (only i f) c = omega arith in
+    let scaled : weigh (only i f) (n ∷ c) * w i f ≡ (n.count + weigh (only i f) c) * w i f = ap (λ m. m * w i f) more in
+    let spread : (n.count + weigh (only i f) c) * w i f ≡ n.count * w i f + weigh (only i f) c * w i f = add-mul n.count (weigh (only i f) c) (w i f) in
+    omega arith)
 
 without-short : (i f : ℕ) (c : Content) → length (without i f c) ≤ length c
 without-short i f [] = omega arith

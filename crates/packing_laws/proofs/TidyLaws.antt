@@ -1,5 +1,5 @@
 -- What tidying keeps: a packing stays one, and costs no more.
-use Rattle.std.proofs.Common.{zero, suc, ◌≡◌, ℕ, ◌+◌, ◌*◌, ◌<◌, ◌≤◌, ◌∙◌, inl, inr, List, [], ◌∷◌, ◌++◌, Bool, true, false, cond, ◌==◌, ◌&&◌, nat_lt, length, replicate, filter, sum_by, All, Option, Some, None, IfSome, refl, sym, ap, subst, arith, get_or, slice_index, ◌-◌}
+use Rattle.std.proofs.Common.{zero, suc, ◌≡◌, ℕ, ◌+◌, ◌<◌, ◌≤◌, ◌∙◌, inl, inr, List, [], ◌∷◌, ◌++◌, Bool, true, false, cond, ◌==◌, ◌&&◌, nat_lt, length, replicate, filter, sum_by, All, Option, Some, None, IfSome, refl, sym, ap, subst, arith, get_or, slice_index, ◌-◌}
 use Rattle.std.proofs.lemmas.Bool.{cond_both, cond-true, cond-false, cases_Bool, and_from, and_parts, eqb-true, eq-eqb, ltb-false, lt-ltb}
 use Rattle.std.proofs.lemmas.List.Elements.{All-cons, All-nil, All-filter}
 use Rattle.std.proofs.lemmas.List.Sums.{sum_by-cons, get_or-le-sum_by}
@@ -7,7 +7,7 @@ use Rattle.std.proofs.lemmas.List.Sorted.{All-permutation, sum_by-IsPermutation}
 use Rattle.packing_laws.specs.declared.packings.Count.{Count}
 use Rattle.packing_laws.specs.declared.packings.Bin.{Bin}
 use Rattle.packing_laws.specs.Instances.{InstanceValue, IsAmong, type_at, item_at}
-use Rattle.packing_laws.specs.Packings.{Content, Bins, Exists, Fits, IsPacking, all_of, used_of, cost_at, cost_of, count_of_item, count_of_form, weight_in}
+use Rattle.packing_laws.specs.Packings.{Content, Bins, Exists, Fits, all_of, used_of, cost_at, cost_of, count_of_item, count_of_form}
 use Rattle.packing_laws.specs.Printed.{bins_of, filled_bins, units_in, SameContent, AreAlike, IsTidied, IsWrittenPacking}
 use Rattle.packing_laws.specs.Floors.{HasOneUnitEach}
 use Rattle.packing_laws.proofs.Sums.{All-first, All-others, sum_by-flat_map, sum_by-le-sum_by}
@@ -132,10 +132,10 @@ module _ (old new : List Bin) (tidied : IsTidied old new) where
       sum_by-flat_map of_item content (bins_of new)
       ∙ total (λ b. count_of_item i b.1) (λ b c alike. same-item i b.1 c.1 alike.1)
       ∙ sum_by-filter (λ b. count_of_item i b.1) (λ b. nat_lt 0 (units_in b.1)) (bins_of old)
-        (λ b none.
-          let some : units_in b.1 ≤ 0 = ltb-false 0 (units_in b.1) none in
-          let less : count_of_item i b.1 ≤ units_in b.1 = sum_by-le-sum_by of_item (λ (m : Count). m.count) b.1 (λ k d within. cond-below ((get_or b.1 k d).item == i) (get_or b.1 k d).count) in
-          omega arith)
+      (λ b none.
+      let some : units_in b.1 ≤ 0 = ltb-false 0 (units_in b.1) none in
+      let less : count_of_item i b.1 ≤ units_in b.1 = sum_by-le-sum_by of_item (λ (m : Count). m.count) b.1 (λ k d within. cond-below ((get_or b.1 k d).item == i) (get_or b.1 k d).count) in
+      omega arith)
       ∙ sym (sum_by-flat_map of_item content (bins_of old))
 
   pub tidied-packing : (I : InstanceValue) → IsWrittenPacking I old → IsWrittenPacking I new

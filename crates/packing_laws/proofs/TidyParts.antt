@@ -1,9 +1,8 @@
 -- Contents in the printed form, the lines of bins, and the printed form of a packing.
 use Rattle.std.proofs.Common.{zero, suc, ◌≡◌, ℕ, ◌+◌, ◌<◌, ◌≤◌, ◌∙◌, List, [], ◌∷◌, ◌++◌, Bool, true, false, cond, ◌==◌, ◌&&◌, nat_lt, length, map, replicate, filter, sum_by, All, IsPermutation, refl, sym, ap, subst, arith, append-nil, ◌⊎◌, ⊎_elim}
-use Rattle.std.specs.List.{flat_map}
-use Rattle.std.specs.List.Sorted.{IsSorted, IsStrictlySortedBy}
+use Rattle.std.specs.List.Sorted.{IsSorted}
 use Rattle.std.specs.declared.cmp.Ordering.TheVariants.{Equal}
-use Rattle.std.proofs.lemmas.Bool.{cases_Bool, cond-true, cond-false, cond_both, ltb-true, ltb-false, lt-ltb, le-ltb}
+use Rattle.std.proofs.lemmas.Bool.{cond-true, cond-false, cond_both, ltb-true, ltb-false, lt-ltb, le-ltb}
 use Rattle.std.proofs.lemmas.List.{map_push, replicate-append-replicate}
 use Rattle.std.proofs.lemmas.List.Concat.{flat_map-append}
 use Rattle.std.proofs.lemmas.List.Elements.{All-push, All-weaker, filter-append, filter_passes, All-head}
@@ -12,7 +11,7 @@ use Rattle.std.proofs.lemmas.List.Sorted.{All-permutation, sum_by-IsPermutation,
 use Rattle.packing_laws.specs.declared.packings.Count.{Count}
 use Rattle.packing_laws.specs.declared.packings.Bin.{Bin}
 use Rattle.packing_laws.specs.declared.tidying.Line.{Line}
-use Rattle.packing_laws.specs.Packings.{Content, Bins, count_of_form}
+use Rattle.packing_laws.specs.Packings.{Content, Bins}
 use Rattle.packing_laws.specs.Printed.{bins_of, filled_bins, units_in, is_filled, form_cmp, count_cmp, bin_cmp, SameContent, AreAlike, IsTidyContent, IsTidyBin, IsTidied}
 use Rattle.packing_laws.specs.Tidying.{merged, joined_count, joined_bin, bin_of}
 use Rattle.packing_laws.proofs.Merging.{sum_by-merged, flat_map-merged, All-merged, strict-merged}
@@ -80,13 +79,13 @@ AreMerged-units counts sorted out all =
 pub AreMerged-same : (counts sorted out : Content) → AreMerged counts sorted out → SameContent counts out
 AreMerged-same counts sorted out all i f =
     sym (AreMerged-sum (λ (n : Count). cond ((n.item == i) && (n.form == f)) n.count 0) counts sorted out
-      (λ n none. cond-nothing ((n.item == i) && (n.form == f)) n.count (ltb-false 0 n.count none))
-      (λ y x same.
-        let parts = form_equal y x same in
-        let test : Bool = (y.item == i) && (y.form == f) in
-        let also : test ≡ ((x.item == i) && (x.form == f)) = λ k. (parts.0 k == i) && (parts.1 k == f) in
-        cond-adds test y.count x.count ∙ ap (λ (t : Bool). cond test y.count 0 + cond t x.count 0) also)
-      all)
+    (λ n none. cond-nothing ((n.item == i) && (n.form == f)) n.count (ltb-false 0 n.count none))
+    (λ y x same.
+    let parts = form_equal y x same in
+    let test : Bool = (y.item == i) && (y.form == f) in
+    let also : test ≡ ((x.item == i) && (x.form == f)) = λ k. (parts.0 k == i) && (parts.1 k == f) in
+    cond-adds test y.count x.count ∙ ap (λ (t : Bool). cond test y.count 0 + cond t x.count 0) also)
+    all)
 
 filter-replicate_true : {X : Type 0} (p : X → Bool) (n : ℕ) (x : X) → p x ≡ true → filter p (replicate n x) ≡ replicate n x
 filter-replicate_true p zero x passes = refl
@@ -121,15 +120,15 @@ AreLines-skipped bins b lines nothing all =
     let pair : ℕ × Content = (b.bin_type, b.counts) in
     let push : sum_by (λ b. cond (is_filled b) b.times 0) (bins ++ b ∷ []) ≡ sum_by (λ b. cond (is_filled b) b.times 0) bins + cond (is_filled b) b.times 0 = sum_by_push (λ b. cond (is_filled b) b.times 0) bins b in
     let none : filled_bins (replicate b.times pair) ≡ [] =
-      ⊎_elim
-      (λ unused. ap (λ (n : ℕ). filled_bins (replicate n pair)) unused)
-      (λ empty. filter-replicate_false (λ (c : ℕ × Content). nat_lt 0 (units_in c.1)) b.times pair (le-ltb 0 (units_in b.counts) (omega arith)))
-      nothing in
+    ⊎_elim
+    (λ unused. ap (λ (n : ℕ). filled_bins (replicate n pair)) unused)
+    (λ empty. filter-replicate_false (λ (c : ℕ × Content). nat_lt 0 (units_in c.1)) b.times pair (le-ltb 0 (units_in b.counts) (omega arith)))
+    nothing in
     let free : ◌≡◌ {A = ℕ} (cond (is_filled b) b.times 0) 0 =
-      ⊎_elim
-      (λ unused. cond-nothing (is_filled b) b.times (omega arith))
-      (λ empty. cond-false (is_filled b) b.times 0 (le-ltb 0 (units_in b.counts) (omega arith)))
-      nothing in
+    ⊎_elim
+    (λ unused. cond-nothing (is_filled b) b.times (omega arith))
+    (λ empty. cond-false (is_filled b) b.times 0 (le-ltb 0 (units_in b.counts) (omega arith)))
+    nothing in
     let same : filled_bins (bins_of (bins ++ b ∷ [])) ≡ filled_bins (bins_of bins) = filled_bins-push bins b [] none ∙ append-nil (filled_bins (bins_of bins)) in
     record {
       tidy = all.tidy;
@@ -167,13 +166,13 @@ AreLines-push bins b lines x line all =
     let mapped : map bin_of (lines ++ x ∷ []) ≡ map bin_of lines ++ bin_of x ∷ [] = map_push bin_of lines x in
     let old_bins : filled_bins (bins_of (bins ++ b ∷ [])) ≡ filled_bins (bins_of bins) ++ replicate b.times pair = filled_bins-push bins b (replicate b.times pair) (filter-replicate_true (λ (c : ℕ × Content). nat_lt 0 (units_in c.1)) b.times pair filled) in
     let new_bins : bins_of (map bin_of (lines ++ x ∷ [])) ≡ bins_of (map bin_of lines) ++ replicate b.times new =
-      ap (λ (l : List Bin). bins_of l) mapped ∙ bins_of-push (map bin_of lines) (bin_of x) ∙ ap (λ (n : ℕ). bins_of (map bin_of lines) ++ replicate n new) line.times in
+    ap (λ (l : List Bin). bins_of l) mapped ∙ bins_of-push (map bin_of lines) (bin_of x) ∙ ap (λ (n : ℕ). bins_of (map bin_of lines) ++ replicate n new) line.times in
     record {
       tidy = subst (All IsTidyBin) (sym mapped) (All-push IsTidyBin (map bin_of lines) (bin_of x) all.tidy (record { used = let e : x.times ≡ b.times = line.times in let u : 0 < b.times = line.used in omega arith; filled = line.some; content = line.tidy }));
       alike =
           subst (λ (P : Bins). AreAlike P (bins_of (map bin_of (lines ++ x ∷ [])))) (sym old_bins)
           (subst (λ (Q : Bins). AreAlike (filled_bins (bins_of bins) ++ replicate b.times pair) Q) (sym new_bins)
-            (AreAlike-append (filled_bins (bins_of bins)) (bins_of (map bin_of lines)) (replicate b.times pair) (replicate b.times new) all.alike (AreAlike-replicate b.times pair new (sym line.bin_type, line.same))));
+          (AreAlike-append (filled_bins (bins_of bins)) (bins_of (map bin_of lines)) (replicate b.times pair) (replicate b.times new) all.alike (AreAlike-replicate b.times pair new (sym line.bin_type, line.same))));
       times = let before : sum_by (λ (y : Line). y.times) lines ≡ sum_by (λ b. cond (is_filled b) b.times 0) bins = all.times in let e : x.times ≡ b.times = line.times in omega arith;
     }
 
@@ -184,12 +183,12 @@ tidied old lines sorted new all moved rises is =
     let each : Bin → Bins = λ b. replicate b.times (b.bin_type, b.counts) in
     let rows : IsPermutation (map bin_of lines) bins = IsPermutation-map bin_of lines sorted moved in
     let same : bins_of (merged bin_cmp joined_bin bins) ≡ bins_of bins =
-      flat_map-merged bin_cmp joined_bin each
-      (λ y x equal.
-        let parts = bin_equal y x equal in
-        let pair : ◌≡◌ {A = ℕ × Content} (y.bin_type, y.counts) (x.bin_type, x.counts) = λ k. (parts.0 k, parts.1 k) in
-        sym (replicate-append-replicate y.times x.times (y.bin_type, y.counts)) ∙ ap (λ (p : ℕ × Content). replicate y.times (y.bin_type, y.counts) ++ replicate x.times p) pair)
-      bins in
+    flat_map-merged bin_cmp joined_bin each
+    (λ y x equal.
+    let parts = bin_equal y x equal in
+    let pair : ◌≡◌ {A = ℕ × Content} (y.bin_type, y.counts) (x.bin_type, x.counts) = λ k. (parts.0 k, parts.1 k) in
+    sym (replicate-append-replicate y.times x.times (y.bin_type, y.counts)) ∙ ap (λ (p : ℕ × Content). replicate y.times (y.bin_type, y.counts) ++ replicate x.times p) pair)
+    bins in
     let found = AreAlike-rearranged (filled_bins (bins_of old)) (bins_of (map bin_of lines)) (bins_of bins) all.alike (flat_map-IsPermutation each (map bin_of lines) bins rows) in
     subst (IsTidied old) (sym is) (record {
       tidy = record {

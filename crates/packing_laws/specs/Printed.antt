@@ -1,5 +1,5 @@
 -- Packings as they are written down: bins, each with the number of times that it is used.
-use Rattle.std.specs.Prelude.{◌≡◌, ℕ, ◌+◌, ◌*◌, ◌^◌, ◌<◌, ◌≤◌, Bool, if◌then◌else◌, List, [], ◌∷◌, All, length, replicate, sum_by, filter, nat_lt}
+use Rattle.std.specs.Prelude.{◌≡◌, ℕ, ◌^◌, ◌<◌, Bool, if◌then◌else◌, List, [], ◌∷◌, All, length, replicate, sum_by, filter, nat_lt}
 use Rattle.std.specs.List.{flat_map}
 use Rattle.std.specs.List.Sorted.{IsStrictlySortedBy, IsPermutation}
 use Rattle.std.specs.Ordering.{nat_cmp, ordering_then}
@@ -7,7 +7,7 @@ use Rattle.std.specs.Cmp.Lexicographic.{slice_cmp}
 use Rattle.std.specs.declared.cmp.Ordering.{Ordering}
 use Rattle.packing_laws.specs.declared.packings.Count.{Count}
 use Rattle.packing_laws.specs.declared.packings.Bin.{Bin}
-use Rattle.packing_laws.specs.Instances.{InstanceValue}
+use Rattle.packing_laws.specs.Instances.{InstanceValue, IsInstance}
 use Rattle.packing_laws.specs.Packings.{Content, Bins, Fits, IsPacking, count_of_form}
 
 -- the bins that are meant: each as often as it is used
@@ -63,6 +63,10 @@ is_filled b = nat_lt 0 (units_in b.counts)
 pub record SumsFit (bins : List Bin) : Type 0 where
   pub times : sum_by (λ b. if is_filled b then b.times else 0) bins < 2 ^ 32
   pub counts : All (λ b. 0 < b.times → units_in b.counts < 2 ^ 32) bins
+
+-- the sums of every packing of an instance fit
+abbrev pub PackingsFit : Type 0
+PackingsFit = (I : InstanceValue) (bins : List Bin) → IsInstance I → IsWrittenPacking I bins → SumsFit bins
 
 -- the bins that are not empty
 abbrev pub filled_bins : Bins → Bins

@@ -1,6 +1,7 @@
 //! What holds of every instance: a call of a law brings it to a proof.
 
 ghost use Rattle.packing_laws.specs.Floors.{MaterialIsFloor, BestTypeGivesFloor, NoPlaceNoPacking, SingleIsReached};
+ghost use Rattle.packing_laws.specs.Printed.{PackingsFit};
 ghost use Rattle.packing_laws.specs.FloorExamples.{FloorsComeOut};
 
 /// No packing costs less than the material bound.
@@ -26,4 +27,9 @@ pub fn single_is_reached()
 /// What the definitions of the bounds say of worked instances.
 pub fn floors_come_out()
     ensures { FloorsComeOut }
+{}
+
+/// The sums that `tidy` forms of a packing of an instance fit.
+pub fn packings_fit()
+    ensures { PackingsFit }
 {}

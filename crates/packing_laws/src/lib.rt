@@ -2,6 +2,7 @@
 #![tactic(auto)]
 
 mod apart;
+mod checks;
 mod costs;
 mod fault;
 mod floors;
@@ -12,17 +13,18 @@ mod numbers;
 mod packings;
 mod places;
 mod single;
-mod tidying;
 #[cfg(test)]
 mod tests;
+mod tidying;
 
 pub use apart::units_apart;
+pub use checks::{fits, is_packing};
 pub use costs::cost;
 pub use fault::ReadFault;
 pub use floors::material_bound;
 pub use instances::{BinType, Instance, Item};
 pub use laws::{
-    best_type_gives_floor, floors_come_out, material_is_floor, no_place_no_packing,
+    best_type_gives_floor, floors_come_out, material_is_floor, no_place_no_packing, packings_fit,
     single_is_reached,
 };
 pub use numbers::{Numbers, Vectors};

@@ -1,9 +1,11 @@
 //! Values from worked instances.
 
+ghost use Rattle.std.specs.Prelude.{◌≡◌, IfOk};
+
 use crate::{
     Bin, BinType, Count, Counts, Instance, Item, Numbers, Packing, Vectors, best_type_gives_floor,
-    cost, floors_come_out, homeless_item, material_bound, material_is_floor, no_place_no_packing,
-    single_cost, single_is_reached, units_apart,
+    cost, fits, floors_come_out, homeless_item, is_packing, material_bound, material_is_floor,
+    no_place_no_packing, packings_fit, single_cost, single_is_reached, tidy, units_apart,
 };
 use arc_num::Memory;
 use std::alloc::Global;
@@ -176,11 +178,202 @@ fn bins_of_types_that_do_not_exist(rt: HostRuntime) -> Result<(), Fail> {
     Ok(())
 }
 
+/// Bins that hold so many units of items in their first form.
+fn bin(alloc: Global, bin_type: u32, times: u32, units: &[(u32, u32)]) -> Result<Bin, Memory> {
+    let mut counts = Vec::new(alloc);
+    for (item, count) in units {
+        counts.push(Count {
+            item: *item,
+            form: 1,
+            count: *count,
+        })?;
+    }
+    Ok(Bin {
+        bin_type,
+        times,
+        counts: Counts::new(counts),
+    })
+}
+
+/// Thirteen lengths that are cut from bars of 5,600.
+fn cutting_list(alloc: Global) -> Result<Option<Instance>, Memory> {
+    let lengths = [
+        (1380, 22),
+        (1520, 25),
+        (1560, 12),
+        (1710, 14),
+        (1820, 18),
+        (1880, 18),
+        (1930, 20),
+        (2000, 10),
+        (2050, 12),
+        (2100, 14),
+        (2140, 16),
+        (2150, 18),
+        (2200, 20),
+    ];
+    let mut items = Vec::new(alloc);
+    for (length, demand) in lengths {
+        let forms = vec![in alloc; Numbers::new(vec![in alloc; length]?)]?;
+        items.push(Item {
+            demand,
+            forms: Vectors::new(forms),
+        })?;
+    }
+    let types = vec![in alloc; bin_type(alloc, &[5600], 1, None)?]?;
+    Ok(Instance::new(1, types, items))
+}
+
+/// Bars for the cutting list. One of them is to be cut once.
+fn cut_bars(alloc: Global, once: u32) -> Result<Packing, Memory> {
+    let bars = [
+        (7, [(1, 1), (10, 2)].as_slice()),
+        (3, [(1, 1), (7, 1), (12, 1)].as_slice()),
+        (12, [(1, 1), (9, 1), (12, 1)].as_slice()),
+        (8, [(2, 1), (6, 1), (13, 1)].as_slice()),
+        (16, [(2, 1), (7, 1), (11, 1)].as_slice()),
+        (once, [(2, 1), (7, 1), (12, 1)].as_slice()),
+        (12, [(3, 1), (5, 1), (13, 1)].as_slice()),
+        (10, [(4, 1), (6, 1), (8, 1)].as_slice()),
+        (2, [(4, 2), (12, 1)].as_slice()),
+        (2, [(5, 3)].as_slice()),
+    ];
+    let mut bins = Vec::new(alloc);
+    for (times, units) in bars {
+        bins.push(bin(alloc, 1, times, units)?)?;
+    }
+    Ok(Packing::new(bins))
+}
+
+#[test]
+fn seventy_three_bars(rt: HostRuntime) -> Result<(), Fail> {
+    let instance = cutting_list(rt.alloc())?.ok_or("an instance")?;
+    for (once, expected) in [(0, false), (1, true), (2, false)] {
+        let packing = cut_bars(rt.alloc(), once)?;
+        assert_eq!(rt; is_packing(&instance, &packing), expected);
+        assert_eq!(rt; cost(&instance, &packing), 72 + u128::from(once));
+    }
+    Ok(())
+}
+
+#[test]
+fn bins_that_fit(rt: HostRuntime) -> Result<(), Fail> {
+    for (cap, bin_type, item, form, expected) in [
+        (33, 1, 1, 1, true),
+        (32, 1, 1, 1, false),
+        (33, 2, 1, 1, false),
+        (33, 0, 1, 1, false),
+        (33, 1, 2, 1, false),
+        (33, 1, 1, 2, false),
+        (33, 1, 1, 0, false),
+    ] {
+        let instance = plain(rt.alloc(), &[cap], None, 3, &[11])?.ok_or("an instance")?;
+        let counts = vec![in rt.alloc();
+            Count {
+                item,
+                form,
+                count: 3
+            },
+        ]?;
+        let bin = Bin {
+            bin_type,
+            times: 0,
+            counts: Counts::new(counts),
+        };
+        assert_eq!(rt; fits(&instance, &bin), expected);
+    }
+    Ok(())
+}
+
+#[test]
+fn limits_and_bins_that_are_not_used(rt: HostRuntime) -> Result<(), Fail> {
+    let instance = plain(rt.alloc(), &[10], Some(1), 2, &[5])?.ok_or("an instance")?;
+    for (times, count, idle, expected) in [(1, 2, 1, true), (2, 1, 1, false), (1, 2, 2, false)] {
+        let bins = vec![in rt.alloc();
+            bin(rt.alloc(), 1, times, &[(1, count)])?,
+            bin(rt.alloc(), idle, 0, &[])?,
+        ]?;
+        assert_eq!(rt; is_packing(&instance, &Packing::new(bins)), expected);
+    }
+    Ok(())
+}
+
 #[test]
 fn laws_hold() {
     material_is_floor();
     best_type_gives_floor();
     no_place_no_packing();
     single_is_reached();
+    packings_fit();
     floors_come_out();
+}
+
+fn count_of(item: u32, form: u32, count: u32) -> Count
+    ensures { result ≡ record { item = item; form = form; count = count } }
+{
+    Count { item, form, count }
+}
+
+fn bin(alloc: Global, bin_type: u32, times: u32, counts: &[Count]) -> Result<Bin, Memory>
+    ensures { IfOk result (λ b. b ≡ record { bin_type = bin_type; times = times; counts = counts.now }) }
+{
+    Ok(Bin {
+        bin_type,
+        times,
+        counts: Counts::new(Vec::from_slice(alloc, counts)?),
+    })
+}
+
+fn are_equal(left: &[Bin], right: &[Bin]) -> bool {
+    if left.len() != right.len() {
+        return false;
+    }
+    for (a, b) in left.iter().zip(right.iter()) {
+        if a.bin_type != b.bin_type || a.times != b.times {
+            return false;
+        }
+        if a.counts.as_slice() != b.counts.as_slice() {
+            return false;
+        }
+    }
+    true
+}
+
+#[test]
+fn two_alike_and_an_empty_one(rt: HostRuntime) -> Result<(), Fail> {
+    let alloc = rt.alloc();
+    let bins = vec![in alloc;
+        bin(alloc, 1, 1, &[count_of(1, 1, 1)])?,
+        bin(alloc, 1, 1, &[])?,
+        bin(alloc, 1, 1, &[count_of(1, 1, 1)])?,
+    ]?;
+    let mut packing = Packing::new(bins);
+    tidy(&mut packing)?;
+    let expected = vec![in alloc; bin(alloc, 1, 2, &[count_of(1, 1, 1)])?]?;
+    assert!(rt; are_equal(packing.bins(), expected.as_slice()));
+    Ok(())
+}
+
+#[test]
+fn counts_and_bins_out_of_order(rt: HostRuntime) -> Result<(), Fail> {
+    let alloc = rt.alloc();
+    let mixed = [
+        count_of(2, 1, 1),
+        count_of(1, 1, 2),
+        count_of(2, 1, 1),
+        count_of(1, 2, 0),
+    ];
+    let bins = vec![in alloc;
+        bin(alloc, 2, 1, &mixed)?,
+        bin(alloc, 1, 3, &[count_of(1, 1, 1)])?,
+        bin(alloc, 1, 0, &[count_of(1, 1, 5)])?,
+    ]?;
+    let mut packing = Packing::new(bins);
+    tidy(&mut packing)?;
+    let expected = vec![in alloc;
+        bin(alloc, 1, 3, &[count_of(1, 1, 1)])?,
+        bin(alloc, 2, 1, &[count_of(1, 1, 2), count_of(2, 1, 2)])?,
+    ]?;
+    assert!(rt; are_equal(packing.bins(), expected.as_slice()));
+    Ok(())
 }

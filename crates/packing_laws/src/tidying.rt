@@ -154,7 +154,9 @@ fn is_alike(bin: &Bin, line: &Line) -> bool
     ensures { IsTrue result ↔ (bin_cmp bin.now (bin_of line.now) ≡ Equal) }
 {
     let by_type = bin.bin_type.cmp(&line.bin_type);
-    by_type.then(bin.counts.as_slice().cmp(line.counts.as_slice())).is_eq()
+    by_type
+        .then(bin.counts.as_slice().cmp(line.counts.as_slice()))
+        .is_eq()
 }
 
 fn bin_from(line: &Line) -> Result<Bin, Memory>

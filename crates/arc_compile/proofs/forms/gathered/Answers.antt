@@ -17,14 +17,16 @@ loop-i-preserved g c =
     let at : item_at I (i + 1) ≡ x = item_by_place I i x lt (subst (λ (xs : List Item). x ≡ get_or xs i x) same c.item-item.is) in
     let sum : forms_of (take (i + 1) I.items) ≡ forms_of (take i I.items) + length x.forms = forms_more I.items i x lt (subst (λ (xs : List Item). x ≡ get_or xs i x) same c.item-item.is) in
     elim c.if-item-gt0.branch [
-      | then-item-gt0+in_ok-push_forms w ↦
-          (λ t cap_is.
+      | then-item-gt0+in_ok-push_forms w ↦ (
+        λ t cap_is.
             let adds : AddsForms (i + 1) x (type_at I t).cap (length x.forms) c.loop-i.ranked.items w.push_forms.new.ranked.items = subst (λ (u : List ℕ). AddsForms (i + 1) x u (length x.forms) c.loop-i.ranked.items w.push_forms.new.ranked.items) (sym cap_is) w.in_ok-push_forms.ensures.added in
             rw w.ranked-is (items_push I t i x c.loop-i.ranked.items w.push_forms.new.ranked.items at w.if-item-gt0.true (c.loop-i.invariant.0 t cap_is) adds),
-           omega (arith, c.loop-i.invariant.1, sum, ap vec_len w.ranked-is, w.in_ok-push_forms.ensures.count))
-      | else-item-gt0 w ↦
-          (λ t cap_is. rw w.ranked-is (items_skip I t i x c.loop-i.ranked.items at (omega arith) (c.loop-i.invariant.0 t cap_is)),
-           omega (arith, c.loop-i.invariant.1, sum, ap vec_len w.ranked-is))
+        omega (arith, c.loop-i.invariant.1, sum, ap vec_len w.ranked-is, w.in_ok-push_forms.ensures.count),
+      )
+      | else-item-gt0 w ↦ (
+        λ t cap_is. rw w.ranked-is (items_skip I t i x c.loop-i.ranked.items at (omega arith) (c.loop-i.invariant.0 t cap_is)),
+        omega (arith, c.loop-i.invariant.1, sum, ap vec_len w.ranked-is),
+      )
     ]
 
 pub returns-clause-count : goal.returns-clause-count

@@ -1,4 +1,6 @@
-use Rattle.std.proofs.Common.{◌≡◌, List, ℕ, sym, subst, ◌∙◌, ap, rules, length, get_or}
+use Rattle.std.proofs.Common.{◌≡◌, List, ℕ, sym, subst, ◌∙◌, ap, ◌≤◌, rules, length, get_or, arith}
+use Rattle.std.proofs.lemmas.List.{length-map}
+use Rattle.arc_num.specs.declared.TheConstants.{MAX_ALL_FORMS}
 use Rattle.std.specs.Prelude.{All}
 use Rattle.std.proofs.lemmas.Result.{IfOk-weaker}
 use Rattle.std.proofs.lemmas.List.Elements.{All-contains_itself}
@@ -7,7 +9,7 @@ use Rattle.packing_laws.specs.Instances.{IsAmong, type_at}
 use Rattle.label_graph.specs.declared.parts.Piece.{Piece}
 use Rattle.arc_compile.specs.declared.ranks.Ranked.{Ranked}
 use Rattle.arc_compile.specs.Pieces.{ArePieces}
-use Rattle.arc_compile.specs.Ranks.{AreRanked, pieces_from}
+use Rattle.arc_compile.specs.Ranks.{AreRanked, pieces_from, piece_from, forms_of}
 use Rattle.arc_compile.proofs.RankLemmas.{are_pieces}
 use Rattle.arc_compile.proofs.pieces.pieces_of.Goals as goal
 
@@ -26,6 +28,16 @@ returns-clause-pieces g c =
     let ranked : AreRanked {N = g.row.N} I c.args.t (length I.items) c.in_ok-ranked.ranked.items = c.in_ok-ranked.ensures.ranked c.args.t cap_is in
     IfOk-weaker c.with_copies.result _ _
     (λ pieces made. subst (λ (ps : List (Piece g.row.N)). ArePieces I c.args.t ps)
-      (sym (made ∙ ap (λ (rs : List (Ranked g.row.N)). pieces_from I rs) c.as_slice-2.ensures.value))
-      (are_pieces I c.args.t c.in_ok-ranked.ranked.items ranked c.in_ok-ranked.ensures.sorted))
+    (sym (made ∙ ap (λ (rs : List (Ranked g.row.N)). pieces_from I rs) c.as_slice-2.ensures.value))
+    (are_pieces I c.args.t c.in_ok-ranked.ranked.items ranked c.in_ok-ranked.ensures.sorted))
+    c.with_copies.ensures
+
+pub returns-clause-count : goal.returns-clause-count
+returns-clause-count g c =
+    let I = c.args.instance.now in
+    IfOk-weaker c.with_copies.result _ _
+    (λ pieces made.
+    let sized : length pieces.items ≡ length c.in_ok-ranked.ranked.items = ap length made ∙ (length-map c.as_slice-2.result.now (piece_from I) ∙ ap length c.as_slice-2.ensures.value) in
+    let few : forms_of I.items ≤ MAX_ALL_FORMS = c.known.ensures.form_count in
+    omega (arith, sized, few, c.in_ok-ranked.ensures.count))
     c.with_copies.ensures

@@ -1,5 +1,5 @@
 -- One more bin gives a line, or nothing.
-use Rattle.std.proofs.Common.{◌≡◌, ℕ, ◌+◌, ◌<◌, ◌≤◌, ◌==◌, ◌∙◌, ◌++◌, [], ◌∷◌, List, Vec, Global, Bool, true, false, take, length, inl, inr, refl, sym, ap, subst, arith}
+use Rattle.std.proofs.Common.{◌≡◌, ℕ, ◌+◌, ◌≤◌, ◌==◌, ◌∙◌, ◌++◌, [], ◌∷◌, List, Vec, Global, false, take, length, inl, inr, refl, sym, ap, subst, arith}
 use Rattle.std.proofs.lemmas.Bool.{eqb-true, eqb-false}
 use Rattle.std.proofs.lemmas.List.{take_more, nil_from_length}
 use Rattle.packing_laws.specs.declared.packings.Count.{Count}

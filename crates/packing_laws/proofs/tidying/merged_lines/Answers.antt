@@ -1,5 +1,5 @@
 -- The times so far and those of the next line add up to no more than all of them.
-use Rattle.std.proofs.Common.{◌≡◌, ℕ, ◌+◌, ◌≤◌, ◌∙◌, List, take, get_or, sum_by, ap, sym, arith}
+use Rattle.std.proofs.Common.{◌≡◌, ℕ, ◌+◌, ◌≤◌, ◌∙◌, List, take, sum_by, ap, sym, arith}
 use Rattle.std.proofs.lemmas.List.Sums.{sum_by_more, sum_by-take-le}
 use Rattle.packing_laws.specs.declared.packings.Bin.{Bin}
 use Rattle.packing_laws.specs.declared.tidying.Line.{Line}

@@ -1,11 +1,11 @@
 -- The counts above 0, in order and merged, are the content in the printed form.
-use Rattle.std.proofs.Common.{◌≡◌, ℕ, ◌∙◌, List, Vec, Global, sym, ap, subst, rules, arith}
-use Rattle.std.specs.List.Sorted.{IsPermutation, IsSorted}
+use Rattle.std.proofs.Common.{◌≡◌, ◌∙◌, List, ap, subst, arith}
+use Rattle.std.specs.List.Sorted.{IsPermutation}
 use Rattle.std.proofs.lemmas.Result.{IfOk-weaker}
 use Rattle.packing_laws.specs.declared.packings.Count.{Count}
-use Rattle.packing_laws.specs.Printed.{units_in, form_cmp, count_cmp, IsTidyContent, SameContent}
+use Rattle.packing_laws.specs.Printed.{units_in, form_cmp, IsTidyContent, SameContent}
 use Rattle.packing_laws.specs.Tidying.{merged, joined_count}
-use Rattle.packing_laws.proofs.TidyParts.{AreMerged, AreMerged-tidy, AreMerged-same, AreMerged-units, units_in-sorted}
+use Rattle.packing_laws.proofs.TidyParts.{AreMerged-tidy, AreMerged-same, AreMerged-units, units_in-sorted}
 use Rattle.packing_laws.proofs.tidying.tidy_counts.Goals as goal
 
 pub merged_counts-requires : goal.merged_counts-requires

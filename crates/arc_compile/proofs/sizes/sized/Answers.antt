@@ -1,0 +1,40 @@
+use Rattle.std.proofs.Common.{◌≡◌, List, ℕ, sym, subst, ◌∙◌, ap, rules}
+use Rattle.std.proofs.lemmas.Result.{IfOk-weaker}
+use Rattle.packing_laws.specs.declared.instances.BinType.{BinType}
+use Rattle.packing_laws.specs.Instances.{type_at}
+use Rattle.label_graph.specs.declared.parts.Piece.{Piece}
+use Rattle.level_graph.specs.Levels.{IsPieceList, IsLevelCount}
+use Rattle.arc_compile.specs.Pieces.{padded}
+use Rattle.arc_compile.proofs.PieceLists.{is_piece_list}
+use Rattle.arc_compile.proofs.sizes.sized.Goals as goal
+
+pub level_counts-requires : goal.level_counts-requires
+level_counts-requires g c =
+    let I = c.args.instance.now in
+    let vector : c.as_slice.result.now ≡ (type_at I c.args.t).cap = c.as_slice.ensures ∙ ap (λ (b : BinType). b.cap) c.in-Some.ensures.value in
+    let room : c.in-Some-pad_from.cap ≡ padded g.row.N (type_at I c.args.t).cap = c.in-Some-pad_from.ensures.1 ∙ ap (padded g.row.N) vector in (
+      search rules,
+      (
+        search rules,
+        (
+          c.requires.small,
+          subst (λ (ps : List (Piece g.row.N)). IsPieceList ps c.in-Some-pad_from.cap) (sym c.as_slice-2.ensures.value)
+              (subst (λ (w : List ℕ). IsPieceList c.in_ok-pieces.pieces.items w) (sym room)
+              (is_piece_list I c.args.t c.known.ensures c.requires.in_range c.in_ok-pieces.pieces.items c.in_ok-pieces.ensures.count c.in_ok-pieces.ensures.pieces)),
+        ),
+      ),
+    )
+
+pub returns : goal.returns
+returns g c =
+    let I = c.args.instance.now in
+    let vector : c.as_slice.result.now ≡ (type_at I c.args.t).cap = c.as_slice.ensures ∙ ap (λ (b : BinType). b.cap) c.in-Some.ensures.value in
+    let room : c.in-Some-pad_from.cap ≡ padded g.row.N (type_at I c.args.t).cap = c.in-Some-pad_from.ensures.1 ∙ ap (padded g.row.N) vector in
+    IfOk-weaker c.level_counts.result _ _
+    (λ level counted. record {
+      pieces = c.in_ok-pieces.pieces.items;
+      are_pieces = c.in_ok-pieces.ensures.pieces;
+      counted = subst (λ (ps : List (Piece g.row.N)). IsLevelCount ps (padded g.row.N (type_at I c.args.t).cap) level.0 level.1) c.as_slice-2.ensures.value
+          (subst (λ (w : List ℕ). IsLevelCount c.as_slice-2.result.now w level.0 level.1) room counted);
+    })
+    c.level_counts.ensures
