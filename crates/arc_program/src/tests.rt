@@ -308,6 +308,11 @@ fn names_are_read_as_given(rt: HostRuntime) -> Result<(), Fail> {
 fn the_greatest_text_is_read(rt: HostRuntime) -> Result<(), Fail> {
     let outcome = solve_padded(&rt, rt.alloc(), 67_108_864)?;
     assert!(rt; outcome.is(Status::Done, "optimal 0\n", ""));
+    Ok(())
+}
+
+#[test]
+fn one_byte_more_is_too_long(rt: HostRuntime) -> Result<(), Fail> {
     let outcome = solve_padded(&rt, rt.alloc(), 67_108_865)?;
     assert!(rt; outcome.is(Status::BadInstance, "", "vpack: a.vbp: too long\n"));
     Ok(())
