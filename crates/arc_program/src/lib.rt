@@ -11,6 +11,8 @@ mod runs;
 mod scans;
 mod status;
 mod tasks;
+#[cfg(test)]
+mod tests;
 mod text;
 mod words;
 
