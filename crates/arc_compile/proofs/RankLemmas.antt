@@ -1,5 +1,5 @@
 -- Ranks of forms, one form and one item after the other.
-use Rattle.std.proofs.Common.{◌≡◌, ◌⊎◌, ◌↔◌, ℕ, ◌+◌, ◌-◌, ◌<◌, ◌≤◌, true, false, Bool, List, [], ◌∷◌, ◌++◌, length, refl, ap, sym, subst, ◌∙◌, inl, inr, ⊎_elim, arith, get_or, map, take}
+use Rattle.std.proofs.Common.{◌≡◌, ℕ, ◌+◌, ◌-◌, ◌<◌, ◌≤◌, true, false, List, [], ◌∷◌, ◌++◌, length, refl, ap, sym, subst, ◌∙◌, inl, inr, ⊎_elim, arith, get_or, map, take}
 use Rattle.std.specs.Prelude.{Contains}
 use Rattle.std.proofs.lemmas.Bool.{cases_lt, false≢true}
 use Rattle.std.proofs.lemmas.List.Elements.{Contains-push, Contains-append_left, Contains-push_cases, All-map, All-contains_itself}
@@ -11,7 +11,7 @@ use Rattle.std.specs.declared.cmp.Ordering.TheVariants.{Less}
 use Rattle.label_graph.specs.declared.parts.Piece.{Piece}
 use Rattle.packing_laws.specs.declared.instances.Item.{Item}
 use Rattle.packing_laws.specs.Floors.{vector_fits}
-use Rattle.packing_laws.specs.Instances.{InstanceValue, IsAmong, type_at, item_at}
+use Rattle.packing_laws.specs.Instances.{InstanceValue, type_at, item_at}
 use Rattle.arc_compile.specs.declared.ranks.Ranked.{Ranked}
 use Rattle.arc_compile.specs.Pieces.{padded, IsPiece, ArePieces, piece_cmp}
 use Rattle.arc_compile.specs.Ranks.{form_of, IsRankedOf, AddsForms, IsRanked, AreRanked, rank_cmp, piece_from, pieces_from, forms_of}

@@ -1,6 +1,6 @@
 -- The level graph of a type of bins.
-use Rattle.std.specs.Prelude.{◌≡◌, ℕ, ◌+◌, ◌-◌, ◌<◌, ◌≤◌, List, length, nat_le, if◌then◌else◌, Some, slice_get}
-use Rattle.packing_laws.specs.Instances.{InstanceValue, IsAmong, type_at}
+use Rattle.std.specs.Prelude.{◌≡◌, ℕ, ◌+◌, List, length, nat_le, if◌then◌else◌, Some, slice_get}
+use Rattle.packing_laws.specs.Instances.{InstanceValue, type_at}
 use Rattle.label_graph.specs.declared.parts.Piece.{Piece}
 use Rattle.level_graph.specs.Levels.{IsLevelCount}
 use Rattle.arc_compile.specs.Pieces.{ArePieces, padded}

@@ -8,3 +8,6 @@ mod sizes;
 
 pub use pieces::pieces_of;
 pub use sizes::level_size;
+
+#[cfg(test)]
+mod tests;

@@ -1,5 +1,5 @@
 -- What a sink has taken of a text after one more line.
-use Rattle.std.proofs.Common.{◌≡◌, ℕ, ◌+◌, ◌-◌, ◌<◌, ◌≤◌, ◌⊎◌, List, ◌++◌, length, take, drop, refl, ap, sym, subst, ◌∙◌, arith, inl, inr, Option, Some, None, IfSome, Result, Ok, Err, append_assoc, min}
+use Rattle.std.proofs.Common.{◌≡◌, ℕ, ◌+◌, ◌-◌, ◌≤◌, List, ◌++◌, length, take, drop, ap, sym, subst, ◌∙◌, arith, inl, inr, Some, None, IfSome, Ok, Err, append_assoc, min}
 use Rattle.std.proofs.Math.Seq.{take-add, take-length}
 use Rattle.std.proofs.lemmas.List.{take-take, length-take, take_min}
 use Rattle.std.proofs.lemmas.Bool.{cases_lt}

@@ -1,5 +1,5 @@
 -- Reports, line by line.
-use Rattle.std.proofs.Common.{◌≡◌, ℕ, ◌+◌, ◌<◌, List, [], ◌∷◌, ◌++◌, length, take, get_or, refl, ap, sym, ◌∙◌, arith, append_assoc, append-nil}
+use Rattle.std.proofs.Common.{◌≡◌, ℕ, ◌+◌, ◌<◌, List, [], ◌∷◌, ◌++◌, length, take, get_or, ap, sym, ◌∙◌, arith, append_assoc, append-nil}
 use Rattle.std.proofs.lemmas.List.{take_more, length-take-le}
 use Rattle.arc_program.specs.Reports.{level_line, level_lines}
 
@@ -19,7 +19,7 @@ level_lines-more levels t level before lt e =
     let last : level_lines (t + 1) (level ∷ []) ≡ level_line (t + 1) level = append-nil (level_line (t + 1) level) in
     append_assoc before (level_lines 1 (take t levels)) (level_line (t + 1) level)
     ∙ ap (λ (zs : List ℕ). before ++ zs)
-      (ap (λ (zs : List ℕ). level_lines 1 (take t levels) ++ zs) (sym last)
-       ∙ (ap (λ (k : ℕ). level_lines 1 (take t levels) ++ level_lines k (level ∷ [])) (sym n)
-       ∙ (sym (level_lines-append 1 (take t levels) (level ∷ []))
-       ∙ ap (level_lines 1) (sym more))))
+    (ap (λ (zs : List ℕ). level_lines 1 (take t levels) ++ zs) (sym last)
+    ∙ (ap (λ (k : ℕ). level_lines 1 (take t levels) ++ level_lines k (level ∷ [])) (sym n)
+    ∙ (sym (level_lines-append 1 (take t levels) (level ∷ []))
+    ∙ ap (level_lines 1) (sym more))))

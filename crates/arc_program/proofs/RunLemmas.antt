@@ -1,5 +1,5 @@
 -- Reports that were printed, and what a run owes.
-use Rattle.std.proofs.Common.{◌≡◌, ◌⊎◌, ℕ, List, refl, ap, sym, subst, ◌∙◌, inl, inr, Option, Some, None, IfSome, Result, Ok, Err, IsOkAnd, string_bytes}
+use Rattle.std.proofs.Common.{◌≡◌, ℕ, List, sym, subst, inl, inr, Some, None, IfSome, Result, Ok, Err, IsOkAnd, string_bytes}
 use Rattle.arc_io.specs.Bytes.{Told, Files}
 use Rattle.packing_laws.specs.Instances.{InstanceValue}
 use Rattle.packing_laws.specs.declared.fault.ReadFault.{ReadFault}

@@ -1,5 +1,5 @@
 -- What one more word does to the options and the plain words.
-use Rattle.std.proofs.Common.{◌≡◌, ℕ, Bool, true, false, cond, ◌||◌, List, [], ◌∷◌, ◌++◌, refl, ap, sym, ◌∙◌}
+use Rattle.std.proofs.Common.{◌≡◌, Bool, true, false, cond, ◌||◌, List, [], ◌∷◌, ◌++◌, refl, ap, ◌∙◌}
 use Rattle.std.specs.List.{list_any}
 use Rattle.arc_program.specs.declared.words.Kind.{Kind}
 use Rattle.arc_program.specs.declared.words.Kind.TheVariants.{End, Flag, Plain}

@@ -1,8 +1,7 @@
 -- Reading the instance that a command names.
-use Rattle.std.specs.Prelude.{◌≡◌, ℕ, Option, Result, Ok, Err, IfSome, String, string_bytes}
+use Rattle.std.specs.Prelude.{◌≡◌, ℕ, Result, Ok, Err, IfSome}
 use Rattle.arc_io.specs.Faults.{Rose}
 use Rattle.arc_io.specs.Bytes.{Told}
-use Rattle.packing_laws.specs.declared.fault.ReadFault.{ReadFault}
 use Rattle.packing_laws.specs.Instances.{InstanceValue}
 use Rattle.arc_program.specs.declared.inputs.InputFault.{InputFault}
 use Rattle.arc_program.specs.declared.inputs.InputFault.TheVariants.{Failed, Long, Misread, Memory}

@@ -1,5 +1,5 @@
 -- Reading a whole text from a shelf.
-use Rattle.std.specs.Prelude.{◌≡◌, ℕ, ◌+◌, ◌<◌, ◌≤◌, Bool, List, [], ◌∷◌, ◌++◌, length, take, drop, Option, Some, None, IfSome, Result, Ok, Err}
+use Rattle.std.specs.Prelude.{◌≡◌, ℕ, ◌+◌, ◌<◌, ◌≤◌, Bool, List, [], ◌++◌, length, take, drop, Some, IfSome, Result, Ok, Err}
 use Rattle.arc_num.specs.declared.TheConstants.{MAX_INSTANCE}
 use Rattle.arc_io.specs.Faults.{Rose}
 use Rattle.arc_io.specs.Bytes.{Told, Files}

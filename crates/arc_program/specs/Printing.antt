@@ -1,5 +1,5 @@
 -- What a sink has taken of a text.
-use Rattle.std.specs.Prelude.{◌≡◌, ℕ, List, ◌++◌, take, Option, Some, IfSome, Result, Ok, Err}
+use Rattle.std.specs.Prelude.{◌≡◌, ℕ, List, ◌++◌, take, Some, IfSome, Result, Ok, Err}
 use Rattle.arc_io.specs.Bytes.{Told}
 use Rattle.arc_io.specs.declared.IoFault.{IoFault}
 

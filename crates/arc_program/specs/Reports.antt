@@ -1,5 +1,5 @@
 -- The texts of reports. Each line ends with one line feed; numbers are decimal, without leading zeros.
-use Rattle.std.specs.Prelude.{◌≡◌, ℕ, ◌+◌, List, [], ◌∷◌, ◌++◌, length, codes, decimal}
+use Rattle.std.specs.Prelude.{ℕ, ◌+◌, List, [], ◌∷◌, ◌++◌, length, codes, decimal}
 use Rattle.std.specs.List.{flat_map}
 use Rattle.packing_laws.specs.declared.packings.Count.{Count}
 use Rattle.packing_laws.specs.declared.packings.Bin.{Bin}

@@ -1,5 +1,5 @@
 -- What a run is, from the words and the bytes that come in to the bytes that go out.
-use Rattle.std.specs.Prelude.{◌≡◌, ℕ, ◌<◌, ◌≤◌, ◌⊎◌, Bool, true, false, List, length, Option, Some, None, IfSome, IsSomeAnd, Result, Ok, Err, IsOkAnd, IsErrAnd, string_bytes, if◌then◌else◌}
+use Rattle.std.specs.Prelude.{◌≡◌, ℕ, ◌<◌, ◌≤◌, ◌⊎◌, Bool, true, false, List, length, IfSome, IsSomeAnd, Result, Ok, Err, IsOkAnd, string_bytes}
 use Rattle.arc_num.specs.declared.TheConstants.{MAX_INSTANCE}
 use Rattle.arc_io.specs.declared.IoFault.{IoFault}
 use Rattle.arc_io.specs.Faults.{Rose, CountsFault}
@@ -19,7 +19,7 @@ use Rattle.arc_program.specs.Words.{Word, Request, Compiles, Solves, words_of}
 use Rattle.arc_program.specs.Answers.{IsAnswer}
 use Rattle.arc_program.specs.Reports.{answer_text, levels_text}
 use Rattle.arc_program.specs.Refusals.{refusal_line, refusal_status, memory_line, long_line, place_line}
-use Rattle.arc_program.specs.Printing.{TakesAll, TakesPrefix}
+use Rattle.arc_program.specs.Printing.{TakesPrefix}
 
 -- the name of the instance that is asked about
 abbrev pub name_of : Request → List ℕ

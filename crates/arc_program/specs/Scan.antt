@@ -1,5 +1,5 @@
 -- What is known of the words so far, while they are looked at one by one.
-use Rattle.std.specs.Prelude.{◌≡◌, ℕ, ◌<◌, List, length, is_some, IfSome, slice_get, string_bytes}
+use Rattle.std.specs.Prelude.{◌≡◌, ◌<◌, List, length, is_some, IfSome, slice_get}
 use Rattle.std.specs.List.{list_any}
 use Rattle.arc_program.specs.declared.scans.Scan.{Scan}
 use Rattle.arc_program.specs.Words.{Word, is_end, is_mvp_option, is_filled, options_of, plains_of}

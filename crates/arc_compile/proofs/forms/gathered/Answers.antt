@@ -1,4 +1,4 @@
-use Rattle.std.proofs.Common.{◌≡◌, ◌+◌, ◌-◌, ◌<◌, ◌≤◌, List, ℕ, length, arith, sym, subst, ap, ◌∙◌, refl, get_or, take, vec_len}
+use Rattle.std.proofs.Common.{◌≡◌, ◌+◌, ◌<◌, List, ℕ, length, arith, sym, subst, ap, ◌∙◌, get_or, take, vec_len}
 use Rattle.std.proofs.Math.Seq.{take-length}
 use Rattle.packing_laws.specs.declared.instances.Item.{Item}
 use Rattle.packing_laws.specs.Instances.{item_at, type_at}

@@ -1,4 +1,4 @@
-use Rattle.std.proofs.Common.{◌≡◌, ◌+◌, ◌-◌, ◌<◌, ◌≤◌, ◌++◌, ◌∷◌, [], true, false, List, ℕ, length, arith, sym, subst, ap, ◌∙◌, refl, get_or, vec_len}
+use Rattle.std.proofs.Common.{◌≡◌, ◌+◌, ◌<◌, ◌++◌, ◌∷◌, [], true, false, List, ℕ, length, arith, sym, subst, ap, ◌∙◌, refl, get_or, vec_len}
 use Rattle.packing_laws.specs.Floors.{vector_fits}
 use Rattle.arc_compile.specs.declared.ranks.Ranked.{Ranked}
 use Rattle.arc_compile.specs.Ranks.{AddsForms, form_of}

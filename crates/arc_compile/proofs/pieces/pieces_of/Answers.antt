@@ -1,4 +1,4 @@
-use Rattle.std.proofs.Common.{◌≡◌, List, ℕ, sym, subst, ◌∙◌, ap, ◌≤◌, rules, length, get_or, arith}
+use Rattle.std.proofs.Common.{◌≡◌, List, sym, subst, ◌∙◌, ap, ◌≤◌, rules, length, get_or, arith}
 use Rattle.std.proofs.lemmas.List.{length-map}
 use Rattle.arc_num.specs.declared.TheConstants.{MAX_ALL_FORMS}
 use Rattle.std.specs.Prelude.{All}

@@ -1,5 +1,5 @@
 use Rattle.arc_program.proofs.PrintLemmas.{takes_more, takes_prefix}
-use Rattle.std.proofs.Common.{arith, ◌∙◌, length, take}
+use Rattle.std.proofs.Common.{arith, ◌∙◌}
 use Rattle.arc_program.proofs.printing.put_lines.Goals as goal
 
 pub returns-in-Err-clause-text : goal.returns-in-Err-clause-text

@@ -1,4 +1,4 @@
-use Rattle.std.proofs.Common.{◌≡◌, ◌<◌, ◌∙◌, ◌+◌, ap, List, ℕ, ◌++◌, get_or, length}
+use Rattle.std.proofs.Common.{◌<◌, ◌∙◌, ◌+◌, ap, List, ℕ, ◌++◌, get_or, length}
 use Rattle.std.proofs.lemmas.List.{get_or_default}
 use Rattle.arc_program.specs.Reports.{level_line}
 use Rattle.arc_program.proofs.ReportLemmas.{level_lines-more}

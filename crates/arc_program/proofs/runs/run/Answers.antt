@@ -1,5 +1,4 @@
-use Rattle.std.proofs.Common.{List, ℕ, map, string_bytes}
-use Rattle.arc_program.specs.declared.status.Status.{Status}
+use Rattle.std.proofs.Common.{map, string_bytes}
 use Rattle.arc_program.specs.declared.status.Status.TheVariants.{Usage, ReadFault, WriteFault, BadCertificate, TooLarge, NoMemory}
 use Rattle.arc_program.proofs.RunLemmas.{not_reported, why_is_said, reported_not_early}
 use Rattle.arc_program.proofs.runs.run.Goals as goal

@@ -1,4 +1,4 @@
-use Rattle.std.proofs.Common.{sym, subst, ap, ◌∙◌, Option, ℕ, List, ◌++◌, ◌∷◌, []}
+use Rattle.std.proofs.Common.{sym, subst, ◌∙◌, Option, ℕ, ◌++◌, ◌∷◌, []}
 use Rattle.arc_program.specs.Scan.{IsScanOf}
 use Rattle.arc_program.proofs.ScanSteps.{after_end, after_flag, after_plain, or_true, or_right}
 use Rattle.arc_program.proofs.scans.Scan.after.Goals as goal
