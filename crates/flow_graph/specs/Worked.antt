@@ -1,0 +1,31 @@
+-- Rows of arcs and boxes that are worked by hand.
+use Rattle.std.specs.Prelude.{◌≡◌, ℕ, List, [], ◌∷◌, replicate}
+use Rattle.flow_graph.specs.declared.parts.ArcKind.TheVariants.{Bin, Loss, Piece}
+use Rattle.flow_graph.specs.Arcs.{TypeValue, numbered, first_arc, last_arc}
+use Rattle.flow_graph.specs.Chords.{points_of}
+
+-- two nodes: from one to the other nothing, an item or another one
+abbrev pub one_of_two : TypeValue
+one_of_two = record {
+  nodes = 2;
+  arcs = record { tail = 1; head = 2; item = 0; form = 0 } ∷ record { tail = 1; head = 2; item = 1; form = 1 } ∷ record { tail = 1; head = 2; item = 2; form = 1 } ∷ [];
+}
+
+-- at most two units of one item
+abbrev pub up_to_two : TypeValue
+up_to_two = record {
+  nodes = 3;
+  arcs = record { tail = 1; head = 2; item = 1; form = 1 } ∷ record { tail = 1; head = 3; item = 0; form = 0 } ∷ record { tail = 2; head = 3; item = 0; form = 0 } ∷ record { tail = 2; head = 3; item = 1; form = 1 } ∷ [];
+}
+
+-- nothing fits
+abbrev pub nothing_fits : TypeValue
+nothing_fits = record { nodes = 1; arcs = [] }
+
+pub record Rows : Type 0 where
+  pub two_types : numbered (one_of_two ∷ nothing_fits ∷ []) ≡ Bin 1 ∷ Loss 1 1 2 ∷ Piece 1 1 2 1 1 ∷ Piece 1 1 2 2 1 ∷ Bin 2 ∷ []
+  pub first_of_second : first_arc (one_of_two ∷ nothing_fits ∷ []) 2 ≡ 5
+  pub last_of_second : last_arc (one_of_two ∷ nothing_fits ∷ []) 2 ≡ 5
+  pub two_nodes_points : points_of (one_of_two ∷ []) (replicate 4 (0, 2)) ≡ 27
+  pub three_nodes_points : points_of (up_to_two ∷ []) (replicate 5 (0, 3)) ≡ 64
+  pub no_arc_points : points_of (nothing_fits ∷ []) ((0, 7) ∷ []) ≡ 8
