@@ -2,7 +2,7 @@
 use Rattle.std.proofs.Common.{◌≡◌, ℕ, zero, suc, ◌+◌, ◌-◌, ◌<◌, ◌≤◌, List, [], ◌∷◌, ◌++◌, length, map, take, drop, get_or, refl, sym, ap, ◌∙◌, subst, ⊎_elim, append_assoc, append-nil, length-append, arith, add-one, drop-cons}
 use Rattle.std.specs.Prelude.{Option, Some, sum_by, slice_get, option_map}
 use Rattle.std.proofs.lemmas.Bool.{cases_lt, ne_eqb}
-use Rattle.std.proofs.lemmas.Option.{slice_get-map}
+use Rattle.std.proofs.lemmas.Option.{slice_get-map, slice_get-get_or}
 use Rattle.std.proofs.lemmas.List.Sums.{sum_by-cons}
 use Rattle.std.proofs.lemmas.List.{take-append-drop, length-take-le}
 use Rattle.packing_laws.specs.Instances.{IsAmong}
@@ -10,6 +10,7 @@ use Rattle.flow_graph.specs.declared.parts.TypeArc.{TypeArc}
 use Rattle.flow_graph.specs.declared.parts.ArcKind.{ArcKind}
 use Rattle.flow_graph.specs.declared.parts.ArcKind.TheVariants.{Bin}
 use Rattle.flow_graph.specs.Arcs.{TypeValue, flow_type, kind_of, row_of, numbered_from, numbered, arc_at, first_arc, last_arc}
+use Rattle.flow_graph.specs.Faithful.{IsPath, AreNumbersOf}
 use Rattle.flow_graph.specs.Laws.{HasNumbers}
 use Rattle.flow_graph.proofs.Numbers.{numbered_from-append, length-numbered_from}
 
@@ -84,3 +85,13 @@ some_type g a among =
     let at = found g (record { nodes = 1; arcs = [] }) (a - 1) (omega (arith, among.0, among.1, long)) in
     let e : suc at.0 - 1 ≡ at.0 = omega arith in
     (suc at.0, (omega arith, omega (arith, at.1)), rw e (omega (arith, at.2, among.0)), rw e (omega (arith, at.3, among.0)))
+
+-- the numbers of the arcs of a path
+pub path_numbers : (g : List TypeValue) (t : ℕ) → IsAmong t (length g) → (path : List TypeArc) (a b : ℕ) → IsPath (flow_type g t).arcs a b path → (numbers : List ℕ) × AreNumbersOf g t numbers path
+path_numbers g t among [] a b leads = ([], tt)
+path_numbers g t among (e ∷ path) a b leads =
+    let arcs : List TypeArc = (flow_type g t).arcs in
+    let rest = path_numbers g t among path e.head b leads.2 in
+    let place : ℕ = leads.0.0 in
+    let own : slice_get arcs place ≡ Some e = slice_get-get_or arcs place e leads.0.1 ∙ ap Some leads.0.2 in
+    ((first_arc g t + 1 + place) ∷ rest.0, ((has_numbers g t among).arcs place e own, rest.1))

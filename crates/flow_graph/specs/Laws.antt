@@ -4,7 +4,7 @@ use Rattle.packing_laws.specs.Instances.{IsAmong}
 use Rattle.flow_graph.specs.declared.parts.TypeArc.{TypeArc}
 use Rattle.flow_graph.specs.declared.parts.ArcKind.TheVariants.{Bin}
 use Rattle.flow_graph.specs.Arcs.{TypeValue, IsFlowType, flow_type, numbered, arc_at, kind_of, first_arc, last_arc}
-use Rattle.flow_graph.specs.Faithful.{IsPath}
+use Rattle.flow_graph.specs.Faithful.{IsPath, AreNumbersOf}
 
 -- the node lies on a path from the source to the target
 pub record OnPath (x : TypeValue) (v : ℕ) : Type 0 where
@@ -26,3 +26,7 @@ pub record HasNumbers (g : List TypeValue) (t : ℕ) : Type 0 where
 pub record NumbersAreArcs : Type 0 where
   pub types : (g : List TypeValue) (t : ℕ) → IsAmong t (length g) → HasNumbers g t
   pub numbers : (g : List TypeValue) (a : ℕ) → IsAmong a (length (numbered g)) → (t : ℕ) × IsAmong t (length g) × (first_arc g t ≤ a) × (a ≤ last_arc g t)
+
+-- the arcs of each path have numbers
+abbrev pub PathsHaveNumbers : Type 0
+PathsHaveNumbers = (g : List TypeValue) (t : ℕ) → IsAmong t (length g) → (path : List TypeArc) (a b : ℕ) → IsPath (flow_type g t).arcs a b path → (numbers : List ℕ) × AreNumbersOf g t numbers path

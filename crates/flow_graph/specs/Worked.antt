@@ -1,7 +1,9 @@
 -- Rows of arcs and boxes that are worked by hand.
-use Rattle.std.specs.Prelude.{◌≡◌, ℕ, List, [], ◌∷◌, replicate}
+use Rattle.std.specs.Prelude.{◌≡◌, ℕ, List, [], ◌∷◌, None, replicate}
 use Rattle.flow_graph.specs.declared.parts.ArcKind.TheVariants.{Bin, Loss, Piece}
-use Rattle.flow_graph.specs.Arcs.{TypeValue, numbered, first_arc, last_arc}
+use Rattle.packing_laws.specs.Instances.{InstanceValue}
+use Rattle.flow_graph.specs.Arcs.{TypeValue, IsFlowType, numbered, first_arc, last_arc}
+use Rattle.flow_graph.specs.Faithful.{IsFaithful}
 use Rattle.flow_graph.specs.Chords.{points_of}
 
 -- two nodes: from one to the other nothing, an item or another one
@@ -22,6 +24,14 @@ up_to_two = record {
 abbrev pub nothing_fits : TypeValue
 nothing_fits = record { nodes = 1; arcs = [] }
 
+-- in one dimension: bins of 10 for 1, and no item
+abbrev pub nothing_to_pack : InstanceValue
+nothing_to_pack = record {
+  dims = 1;
+  types = record { cap = 10 ∷ []; cost = 1; limit = None } ∷ [];
+  items = [];
+}
+
 pub record Rows : Type 0 where
   pub two_types : numbered (one_of_two ∷ nothing_fits ∷ []) ≡ Bin 1 ∷ Loss 1 1 2 ∷ Piece 1 1 2 1 1 ∷ Piece 1 1 2 2 1 ∷ Bin 2 ∷ []
   pub first_of_second : first_arc (one_of_two ∷ nothing_fits ∷ []) 2 ≡ 5
@@ -29,3 +39,6 @@ pub record Rows : Type 0 where
   pub two_nodes_points : points_of (one_of_two ∷ []) (replicate 4 (0, 2)) ≡ 27
   pub three_nodes_points : points_of (up_to_two ∷ []) (replicate 5 (0, 3)) ≡ 64
   pub no_arc_points : points_of (nothing_fits ∷ []) ((0, 7) ∷ []) ≡ 8
+  pub two_nodes : IsFlowType one_of_two
+  pub one_node : IsFlowType nothing_fits
+  pub no_items : IsFaithful nothing_to_pack (nothing_fits ∷ [])

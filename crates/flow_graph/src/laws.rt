@@ -1,6 +1,6 @@
 //! What holds of all graphs. Each function is empty: a call brings its law in as a fact.
 
-ghost use Rattle.flow_graph.specs.Laws.{NodesLieOnPaths, NumbersAreArcs};
+ghost use Rattle.flow_graph.specs.Laws.{NodesLieOnPaths, NumbersAreArcs, PathsHaveNumbers};
 ghost use Rattle.flow_graph.specs.Worked.{Rows};
 
 /// Each node of a type lies on a path from the source to the target.
@@ -11,6 +11,11 @@ pub fn nodes_lie_on_paths()
 /// The numbers of a type are those of its bin arc and of its arcs, and no number is left over.
 pub fn numbers_are_arcs()
     ensures { NumbersAreArcs }
+{}
+
+/// The arcs of each path of a type have numbers.
+pub fn paths_have_numbers()
+    ensures { PathsHaveNumbers }
 {}
 
 /// Rows of arcs and boxes that are worked by hand.

@@ -12,9 +12,15 @@ pub struct TypeArc {
 #[derive(Clone, Copy, Debug, PartialEq, Eq)]
 pub enum ArcKind {
     /// From the target of the type back to its source: a bin of the type.
-    Bin { t: u32 },
+    Bin {
+        t: u32,
+    },
     /// Carries nothing.
-    Loss { t: u32, tail: u32, head: u32 },
+    Loss {
+        t: u32,
+        tail: u32,
+        head: u32,
+    },
     /// Carries one unit of a form of an item.
     Piece {
         t: u32,
