@@ -1,8 +1,7 @@
 -- The worked types keep what a type keeps, and the graph of an instance without items is faithful to it.
-use Rattle.std.proofs.Common.{◌≡◌, ℕ, zero, suc, ◌+◌, ◌-◌, ◌<◌, ◌≤◌, List, [], ◌∷◌, length, get_or, refl, sym, ap, subst, inl, inr, rules, arith, All}
-use Rattle.std.specs.Prelude.{Contains, ◌↔◌, AllPairs}
+use Rattle.std.proofs.Common.{◌≡◌, ℕ, zero, suc, ◌<◌, ◌≤◌, List, [], ◌∷◌, refl, subst, inl, inr, rules, arith, All}
+use Rattle.std.specs.Prelude.{◌↔◌, AllPairs}
 use Rattle.std.proofs.lemmas.List.Elements.{All-from_recursion}
-use Rattle.packing_laws.specs.Instances.{IsAmong}
 use Rattle.packing_laws.specs.Packings.{Content, Exists, Fits, IsWithin}
 use Rattle.packing_laws.specs.Printed.{SameContent}
 use Rattle.flow_graph.specs.declared.parts.TypeArc.{TypeArc}

@@ -1,5 +1,5 @@
 -- Graphs whose paths are the contents that fit.
-use Rattle.std.specs.Prelude.{◌≡◌, ◌⊎◌, ℕ, ◌≤◌, ◌==◌, if◌then◌else◌, List, [], ◌∷◌, Some, All, Contains, length}
+use Rattle.std.specs.Prelude.{◌≡◌, ℕ, ◌≤◌, ◌==◌, if◌then◌else◌, List, [], ◌∷◌, Some, All, Contains, length}
 use Rattle.packing_laws.specs.declared.packings.Count.{Count}
 use Rattle.packing_laws.specs.Instances.{InstanceValue, IsAmong}
 use Rattle.packing_laws.specs.Packings.{Content, Exists, Fits, IsWithin}

@@ -1,5 +1,5 @@
 -- Laws of numbered arcs.
-use Rattle.std.specs.Prelude.{◌≡◌, ◌⊎◌, ℕ, ◌+◌, ◌≤◌, ◌<◌, List, Some, length, slice_get}
+use Rattle.std.specs.Prelude.{◌≡◌, ℕ, ◌+◌, ◌≤◌, List, Some, length, slice_get}
 use Rattle.packing_laws.specs.Instances.{IsAmong}
 use Rattle.flow_graph.specs.declared.parts.TypeArc.{TypeArc}
 use Rattle.flow_graph.specs.declared.parts.ArcKind.TheVariants.{Bin}

@@ -1,5 +1,5 @@
 -- Rows of arcs and boxes that are worked by hand.
-use Rattle.std.specs.Prelude.{◌≡◌, ℕ, List, [], ◌∷◌, None, replicate}
+use Rattle.std.specs.Prelude.{◌≡◌, [], ◌∷◌, None, replicate}
 use Rattle.flow_graph.specs.declared.parts.ArcKind.TheVariants.{Bin, Loss, Piece}
 use Rattle.packing_laws.specs.Instances.{InstanceValue}
 use Rattle.flow_graph.specs.Arcs.{TypeValue, IsFlowType, numbered, first_arc, last_arc}

@@ -1,5 +1,4 @@
-use Rattle.std.proofs.Common.{◌≡◌, ℕ, ◌+◌, ◌<◌, ◌≤◌, length, sum_by, ap, ◌∙◌, rules, arith}
-use Rattle.std.proofs.lemmas.Grind.{common_steps}
+use Rattle.std.proofs.Common.{◌≡◌, ◌+◌, ◌<◌, ◌≤◌, length, sum_by, ap, ◌∙◌, rules}
 use Rattle.flow_graph.proofs.Numbers.{stored_push}
 use Rattle.flow_graph.specs.Arcs.{TypeValue}
 use Rattle.flow_graph.proofs.graph.FlowGraph.add_type.Goals as goal
