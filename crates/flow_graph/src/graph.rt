@@ -187,7 +187,7 @@ fn put_both(
 fn type_row(alloc: Global, t: u32, arcs: &[TypeArc]) -> Result<Vec<ArcKind>, Memory>
     ensures { IfOk result (λ v. v.items ≡ row_of t arcs.now) }
 {
-    let mut row = Vec::new(alloc);
+    let mut row = Vec::with_capacity(alloc, arcs.len() + 1)?;
     row.push(ArcKind::Bin { t })?;
     for arc in arcs {
         row.push(kind(t, arc))?;
