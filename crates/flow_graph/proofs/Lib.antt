@@ -2,3 +2,4 @@ pub mod Ways
 pub mod Numbers
 pub mod Places
 pub mod Examples
+pub mod Trees

@@ -1,6 +1,7 @@
 -- Tree arcs, chords, and how many points a box has.
-use Rattle.std.specs.Prelude.{ℕ, zero, suc, ◌+◌, ◌-◌, ◌*◌, Bool, false, not, ◌==◌, ◌&&◌, if◌then◌else◌, List, Option, None, Some, is_some, length, take, slice_index_or}
+use Rattle.std.specs.Prelude.{◌≡◌, ℕ, zero, suc, ◌+◌, ◌-◌, ◌*◌, Bool, true, false, not, ◌==◌, ◌&&◌, if◌then◌else◌, List, Option, None, Some, is_some, length, take, slice_index_or}
 use Rattle.std.specs.List.{list_any}
+use Rattle.std.specs.Option.{IsSomeAnd}
 use Rattle.flow_graph.specs.declared.parts.ArcKind.{ArcKind}
 use Rattle.flow_graph.specs.declared.parts.ArcKind.TheVariants.{Bin, Loss, Piece}
 use Rattle.flow_graph.specs.Arcs.{TypeValue, numbered, arc_at}
@@ -21,6 +22,10 @@ is_first_after before (Some (Piece t tail head item form)) = not (list_any (ends
 -- arc a is the tree arc of the node in which it ends: the first arc of its type, the bin arc aside, that ends there
 abbrev pub is_tree : List TypeValue → ℕ → Bool
 is_tree g a = is_first_after (take (a - 1) (numbered g)) (arc_at g a)
+
+-- arc a is the tree arc of node v of type t
+abbrev pub IsTreeArcOf : List TypeValue → ℕ → ℕ → ℕ → Type 0
+IsTreeArcOf g t v a = (is_tree g a ≡ true) × IsSomeAnd (arc_at g a) (λ e. ends_in t v e ≡ true)
 
 -- arc a is a chord: one that is no tree arc
 abbrev pub is_chord : List TypeValue → ℕ → Bool

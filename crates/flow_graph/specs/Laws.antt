@@ -1,9 +1,10 @@
 -- Laws of numbered arcs.
-use Rattle.std.specs.Prelude.{◌≡◌, ℕ, ◌+◌, ◌≤◌, List, Some, length, slice_get}
+use Rattle.std.specs.Prelude.{◌≡◌, ℕ, ◌+◌, ◌≤◌, ◌<◌, List, Some, length, slice_get}
 use Rattle.packing_laws.specs.Instances.{IsAmong}
 use Rattle.flow_graph.specs.declared.parts.TypeArc.{TypeArc}
 use Rattle.flow_graph.specs.declared.parts.ArcKind.TheVariants.{Bin}
-use Rattle.flow_graph.specs.Arcs.{TypeValue, IsFlowType, flow_type, numbered, arc_at, kind_of, first_arc, last_arc}
+use Rattle.flow_graph.specs.Arcs.{TypeValue, IsFlowType, IsFlowGraph, flow_type, numbered, arc_at, kind_of, first_arc, last_arc}
+use Rattle.flow_graph.specs.Chords.{IsTreeArcOf}
 use Rattle.flow_graph.specs.Faithful.{IsPath, AreNumbersOf}
 
 -- the node lies on a path from the source to the target
@@ -30,3 +31,13 @@ pub record NumbersAreArcs : Type 0 where
 -- the arcs of each path have numbers
 abbrev pub PathsHaveNumbers : Type 0
 PathsHaveNumbers = (g : List TypeValue) (t : ℕ) → IsAmong t (length g) → (path : List TypeArc) (a b : ℕ) → IsPath (flow_type g t).arcs a b path → (numbers : List ℕ) × AreNumbersOf g t numbers path
+
+-- there is a tree arc of the node, and no other
+pub record HasOneTreeArc (g : List TypeValue) (t v : ℕ) : Type 0 where
+  pub arc : ℕ
+  pub tree : IsTreeArcOf g t v arc
+  pub only : (a : ℕ) → IsTreeArcOf g t v a → a ≡ arc
+
+-- each node of a type but its source has one tree arc
+abbrev pub NodesHaveTreeArcs : Type 0
+NodesHaveTreeArcs = (g : List TypeValue) → IsFlowGraph g → (t : ℕ) → IsAmong t (length g) → (v : ℕ) → 1 < v → v ≤ (flow_type g t).nodes → HasOneTreeArc g t v

@@ -6,7 +6,9 @@ mod laws;
 mod parts;
 
 pub use graph::FlowGraph;
-pub use laws::{nodes_lie_on_paths, numbers_are_arcs, paths_have_numbers, rows_are_worked};
+pub use laws::{
+    nodes_have_tree_arcs, nodes_lie_on_paths, numbers_are_arcs, paths_have_numbers, rows_are_worked,
+};
 pub use parts::{ArcKind, TypeArc};
 
 #[cfg(test)]

@@ -4,8 +4,8 @@ ghost use Rattle.std.specs.Prelude.{◌≡◌, [], ◌∷◌, IfOk};
 ghost use Rattle.flow_graph.specs.Worked.{one_of_two, nothing_fits};
 
 use crate::{
-    ArcKind, FlowGraph, TypeArc, nodes_lie_on_paths, numbers_are_arcs, paths_have_numbers,
-    rows_are_worked,
+    ArcKind, FlowGraph, TypeArc, nodes_have_tree_arcs, nodes_lie_on_paths, numbers_are_arcs,
+    paths_have_numbers, rows_are_worked,
 };
 use arc_num::Memory;
 use std::alloc::Global;
@@ -95,6 +95,7 @@ fn the_second_type_has_the_next_numbers(rt: HostRuntime) -> Result<(), Fail> {
     graph.known();
     numbers_are_arcs();
     nodes_lie_on_paths();
+    nodes_have_tree_arcs();
     paths_have_numbers();
     assert_eq!(rt; (graph.type_count(), graph.arc_count()), (2, 5));
     assert_eq!(rt; graph.arc(5), Some(ArcKind::Bin { t: 2 }));
