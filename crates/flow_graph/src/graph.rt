@@ -1,3 +1,6 @@
+ghost use Rattle.std.specs.Prelude.{◌≡◌, ◌+◌, ◌≤◌, ◌++◌, ◌∷◌, [], IfOk, is_ok, if◌then◌else◌, length, sum_by};
+ghost use Rattle.flow_graph.specs.Arcs.{kind_of, row_of};
+
 use crate::parts::{ArcKind, TypeArc};
 use arc_num::{MAX_ARCS, MAX_TYPES, Memory};
 use std::alloc::Global;
@@ -158,9 +161,6 @@ impl FlowGraph {
         self.types.len() as u32
     }
 }
-
-ghost use Rattle.std.specs.Prelude.{◌≡◌, ◌+◌, ◌≤◌, ◌++◌, ◌∷◌, [], IfOk, is_ok, if◌then◌else◌, length, sum_by};
-ghost use Rattle.flow_graph.specs.Arcs.{kind_of, row_of};
 
 // Appends a type to the types and its arcs to the row, or nothing to either.
 fn put_both(
