@@ -1,0 +1,111 @@
+//! Values from worked rows.
+
+ghost use Rattle.std.specs.Prelude.{◌≡◌, [], ◌∷◌, IfOk};
+ghost use Rattle.flow_graph.specs.Worked.{one_of_two, nothing_fits};
+
+use crate::{
+    ArcKind, FlowGraph, TypeArc, nodes_have_tree_arcs, nodes_lie_on_paths, numbers_are_arcs,
+    paths_have_numbers, rows_are_worked,
+};
+use arc_num::Memory;
+use std::alloc::Global;
+use std::test::Fail;
+
+fn needs_send<T: Send + Sync>(_value: &T) {}
+
+/// A first type of two nodes, where nothing, an item or another one leads from the first to the second.
+fn one_type(alloc: Global) -> Result<FlowGraph, Memory>
+    ensures { IfOk result (λ graph. graph ≡ one_of_two ∷ []) }
+{
+    let mut graph = FlowGraph::new(alloc);
+    let nothing = TypeArc {
+        tail: 1,
+        head: 2,
+        item: 0,
+        form: 0,
+    };
+    let first = TypeArc {
+        tail: 1,
+        head: 2,
+        item: 1,
+        form: 1,
+    };
+    let second = TypeArc {
+        tail: 1,
+        head: 2,
+        item: 2,
+        form: 1,
+    };
+    rows_are_worked();
+    graph.add_type(2, &[nothing, first, second])?;
+    Ok(graph)
+}
+
+/// Behind that a type of one node, where nothing fits.
+fn two_types(alloc: Global) -> Result<FlowGraph, Memory>
+    ensures { IfOk result (λ graph. graph ≡ one_of_two ∷ nothing_fits ∷ []) }
+{
+    let mut graph = one_type(alloc)?;
+    rows_are_worked();
+    graph.add_type(1, &[])?;
+    Ok(graph)
+}
+
+#[test]
+fn arcs_of_a_type_come_after_its_bin_arc(rt: HostRuntime) -> Result<(), Fail> {
+    let graph = one_type(rt.alloc())?;
+    assert_eq!(rt; graph.arc(0), None);
+    assert_eq!(rt; graph.arc(1), Some(ArcKind::Bin { t: 1 }));
+    assert_eq!(rt;
+        graph.arc(2),
+        Some(ArcKind::Loss {
+            t: 1,
+            tail: 1,
+            head: 2
+        })
+    );
+    assert_eq!(rt;
+        graph.arc(3),
+        Some(ArcKind::Piece {
+            t: 1,
+            tail: 1,
+            head: 2,
+            item: 1,
+            form: 1
+        })
+    );
+    assert_eq!(rt;
+        graph.arc(4),
+        Some(ArcKind::Piece {
+            t: 1,
+            tail: 1,
+            head: 2,
+            item: 2,
+            form: 1
+        })
+    );
+    assert_eq!(rt; graph.arc(5), None);
+    needs_send(&graph);
+    Ok(())
+}
+
+#[test]
+fn the_second_type_has_the_next_numbers(rt: HostRuntime) -> Result<(), Fail> {
+    let graph = two_types(rt.alloc())?;
+    graph.known();
+    numbers_are_arcs();
+    nodes_lie_on_paths();
+    nodes_have_tree_arcs();
+    paths_have_numbers();
+    assert_eq!(rt; (graph.type_count(), graph.arc_count()), (2, 5));
+    assert_eq!(rt; graph.arc(5), Some(ArcKind::Bin { t: 2 }));
+    assert_eq!(rt; graph.arcs_of(1), Some((1, 4)));
+    assert_eq!(rt; graph.arcs_of(2), Some((5, 5)));
+    assert_eq!(rt; graph.arcs_of(3), None);
+    assert_eq!(rt; graph.node_count(1), Some(2));
+    assert_eq!(rt; graph.node_count(2), Some(1));
+    assert_eq!(rt; graph.node_count(0), None);
+    assert_eq!(rt; graph.type_arcs(2).map(|arcs| arcs.len()), Some(0));
+    assert_eq!(rt; graph.row().len(), 5);
+    Ok(())
+}
