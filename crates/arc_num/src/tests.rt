@@ -33,6 +33,7 @@ fn tokens_are_found_in_order(rt: HostRuntime) -> Result<(), Fail> {
     );
     assert!(rt; tokens.next().is_none());
     assert!(rt; tokens.next().is_none());
+    assert_eq!(rt; tokens.count(), 3);
     tokens_are_the_longest_runs();
     Ok(())
 }

@@ -1,4 +1,4 @@
-use crate::{Graph, GraphArc, Mark};
+use crate::{Graph, GraphArc, Mark, labels_bound_weights, nodes_lie_on_paths};
 use std::alloc::{AllocError, Global};
 use std::test::Fail;
 use weight_vec::Weights;
@@ -37,4 +37,10 @@ fn marks_and_arcs_are_in_order(rt: HostRuntime) {
         mark: Mark::Loss,
     };
     assert!(rt; first < second);
+}
+
+#[test]
+fn laws_hold() {
+    nodes_lie_on_paths();
+    labels_bound_weights();
 }

@@ -23,3 +23,12 @@ fn places_are_walked(rt: HostRuntime) -> Result<(), Fail> {
     each_text_reads_or_has_a_bad_place();
     Ok(())
 }
+
+#[test]
+fn a_vector_may_be_all_zeros(rt: HostRuntime) -> Result<(), Fail> {
+    let mut places = Places::new(b"0 0 4");
+    let zeros = vector(rt.alloc(), &mut places, 2)?;
+    assert_eq!(rt; zeros.as_slice(), [0, 0].as_slice());
+    assert_eq!(rt; places.number(1, 4)?, 4);
+    Ok(())
+}

@@ -2,7 +2,7 @@ ghost use Rattle.std.specs.Prelude.{◌≡◌, ◌+◌, ◌≤◌, IsTrue};
 ghost use Rattle.weight_vec.specs.Weight.{AtMost, IsZero};
 ghost use Rattle.level_graph.specs.Levels.{IsPieceList};
 
-use crate::{level_counts, levels};
+use crate::{choices_have_one_path, level_counts, levels, levels_are_one, paths_are_choices};
 use arc_num::MAX_ALL_FORMS;
 use label_graph::{Graph, Piece};
 use std::alloc::Global;
@@ -118,4 +118,11 @@ fn rows_of_two_dimensions_have_their_counts(rt: HostRuntime) -> Result<(), Fail>
         &[(&[5, 4], 1), (&[4, 3], 2), (&[3, 1], 2), (&[2, 5], 3)],
         (43, 63),
     )
+}
+
+#[test]
+fn laws_hold() {
+    paths_are_choices();
+    choices_have_one_path();
+    levels_are_one();
 }

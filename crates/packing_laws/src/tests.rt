@@ -58,6 +58,7 @@ fn three_units_of_six(rt: HostRuntime) -> Result<(), Fail> {
     let instance = plain(rt.alloc(), &[10], None, 3, &[6])?.ok_or("an instance")?;
     expect_floors(&rt, &instance, 2, Some(3), None);
     needs_send(&instance);
+    instance.known();
     assert_eq!(rt; instance.dims(), 1);
     assert_eq!(rt; instance.type_count(), 1);
     assert_eq!(rt; instance.item_count(), 1);

@@ -1,4 +1,6 @@
-use crate::Weights;
+use crate::{
+    Weights, at_most_comes_before, padding_keeps_fits, padding_keeps_order, sums_keep_order,
+};
 use std::test::Fail;
 
 fn needs_send<T: Send + Sync>(_value: &T) {}
@@ -17,11 +19,23 @@ fn two_dimensions(rt: HostRuntime) -> Result<(), Fail> {
     assert_eq!(rt; (small.get(0), small.get(1)), (3, 0));
     assert!(rt; small.fits(&great) && !great.fits(&small));
     assert!(rt; small < great);
-    assert!(rt; great.add(&great).is_some());
+    let Some(sum) = small.add(&great) else {
+        return Err("8 and 7 are not too great".into());
+    };
+    assert_eq!(rt; sum, small.plus(&great));
+    assert_eq!(rt; (sum.get(0), sum.get(1)), (8, 7));
     assert_eq!(rt; small.low(&great), small);
     assert_eq!(rt; small.high(&great), great);
     assert!(rt; small.sub(&great).is_none());
     assert_eq!(rt; great.sub(&zero), Some(great));
     needs_send(&small);
     Ok(())
+}
+
+#[test]
+fn laws_hold() {
+    at_most_comes_before();
+    sums_keep_order();
+    padding_keeps_fits();
+    padding_keeps_order();
 }
