@@ -1,2 +1,6 @@
 pub mod Graph
 pub mod GraphLaws
+pub mod Images
+pub mod Heaviest
+pub mod Cuts
+pub mod ImageLaws

@@ -2,10 +2,12 @@
 #![tactic(auto)]
 
 mod graph;
+mod images;
 mod laws;
 mod parts;
 
 pub use graph::Graph;
+pub use images::quotient;
 pub use laws::{labels_bound_weights, nodes_lie_on_paths};
 pub use parts::{GraphArc, GraphFault, Mark, Piece};
 

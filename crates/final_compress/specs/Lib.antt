@@ -1,0 +1,2 @@
+pub mod FinalGraphs
+pub mod FinalLaws

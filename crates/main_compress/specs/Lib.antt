@@ -1,0 +1,2 @@
+pub mod MainGraphs
+pub mod MainLaws
