@@ -1,11 +1,13 @@
 //! From an instance to the graphs of its types of bins.
 #![tactic(auto)]
 
+mod compiled;
 mod forms;
 mod pieces;
 mod ranks;
 mod sizes;
 
+pub use compiled::TypeSize;
 pub use pieces::pieces_of;
 pub use sizes::level_size;
 
