@@ -1,5 +1,5 @@
 -- An instance compiled: the numbered arcs of the final graphs of its types, and the sizes of its graphs.
-use Rattle.std.specs.Prelude.{◌≡◌, ◌↔◌, ℕ, ◌-◌, List, AllPairs, Contains, length, slice_index_or}
+use Rattle.std.specs.Prelude.{◌≡◌, ◌↔◌, ℕ, ◌-◌, ◌≤◌, List, All, AllPairs, Contains, length, slice_index_or}
 use Rattle.packing_laws.specs.Instances.{InstanceValue, IsAmong}
 use Rattle.label_graph.specs.declared.parts.GraphArc.{GraphArc}
 use Rattle.label_graph.specs.declared.parts.Piece.{Piece}
@@ -13,6 +13,11 @@ use Rattle.arc_compile.specs.Graphs.{AreTypeGraphs}
 -- an arc with the item and the form that it carries in place of its mark
 abbrev pub type_arc : {N : ℕ} → List (Piece N) → GraphArc → TypeArc
 type_arc pieces e = record { tail = e.tail; head = e.head; item = marked_item pieces e.mark; form = marked_form pieces e.mark }
+
+-- pieces have items, and no two are of one form
+pub record AreNamed {N : ℕ} (pieces : List (Piece N)) : Type 0 where
+  pub items : All (λ q. (1 ≤ q.item) × (1 ≤ q.form)) pieces
+  pub apart : AllPairs (λ p q. ((p.item ≡ q.item) × (p.form ≡ q.form)) → ⊥) pieces
 
 -- the type has the nodes of the graph, and its arcs by tail, head, item and form
 pub record IsNumberedType {N : ℕ} (g : GraphValue N) (x : TypeValue) : Type 0 where

@@ -3,11 +3,12 @@
 
 mod compiled;
 mod forms;
+mod numbered;
 mod pieces;
 mod ranks;
 mod sizes;
 
-pub use compiled::TypeSize;
+pub use compiled::{CompileFault, Compiled, Sizes, TypeSize};
 pub use pieces::pieces_of;
 pub use sizes::level_size;
 
