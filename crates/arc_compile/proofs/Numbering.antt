@@ -117,7 +117,7 @@ module _ {N : ℕ} (g : GraphValue N) (is : IsGraph N g) (named : AreNamed g.pie
   form_at : (p : ℕ) (d : Piece N) → IsKnown g.pieces (Carries p) → marked_form g.pieces (Carries p) ≡ (get_or g.pieces (p - 1) d).form
   form_at p d known = get_or-map (λ (q : Piece N). q.form) g.pieces (p - 1) d 0 (omega (arith, known.0, known.1))
 
-  named_at : (p : ℕ) → IsKnown g.pieces (Carries p) → (1 ≤ marked_item g.pieces (Carries p)) × (1 ≤ marked_form g.pieces (Carries p))
+  pub named_at : (p : ℕ) → IsKnown g.pieces (Carries p) → (1 ≤ marked_item g.pieces (Carries p)) × (1 ≤ marked_form g.pieces (Carries p))
   named_at p known =
       let d : Piece N = record { item = 0; form = 0; weight = []; copies = 0 } in
       let h = named.items (p - 1) d (omega (arith, known.0, known.1)) in
