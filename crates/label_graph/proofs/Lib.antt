@@ -1,3 +1,4 @@
 pub mod Paths
 pub mod Merging
 pub mod ImageGraphs
+pub mod ImagePaths

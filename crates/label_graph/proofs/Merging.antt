@@ -69,6 +69,18 @@ module _ (labels distinct : List (List ℕ)) (are : AreDistinct labels distinct)
       let from = label-node labels (label_of distinct w) ((are.exact (label_of distinct w)).0 (label-contains distinct w low high)) in
       (from.0, from.1, from.2, record { first = low; last = high; label = sym from.3 })
 
+  -- and into one only
+  pub node-one : (v w x : ℕ) → IsMergedInto labels distinct v w → IsMergedInto labels distinct v x → w ≡ x
+  node-one v w x one two =
+      let same : label_of distinct w ≡ label_of distinct x = one.label ∙ sym two.label in
+      ⊎_elim
+      (λ e. e)
+      (λ apart. ⊎_elim
+      (λ lt. absurd (never_before_itself (label_of distinct x) (subst (λ (l : List ℕ). Before l (label_of distinct x)) same (nodes-before w x one.first lt two.last))))
+      (λ gt. absurd (never_before_itself (label_of distinct x) (subst (λ (l : List ℕ). Before (label_of distinct x) l) same (nodes-before x w two.first gt one.last))))
+      apart)
+      (cases_order w x)
+
 -- the new labels of a graph
 module _ {N : ℕ} (g : GraphValue N) (labels distinct : List (List ℕ)) (is : IsGraph N g) (new : IsLabelling g labels) (are : AreDistinct labels distinct) where
   pub arc-ends : (e : GraphArc) → Contains g.arcs e → (1 ≤ e.tail) × (e.tail < e.head) × (e.head ≤ length g.labels)

@@ -1,7 +1,7 @@
 //! What holds of all graphs. Each function is empty: a call brings its law in as a fact.
 
 ghost use Rattle.label_graph.specs.GraphLaws.{NodesLieOnPaths, LabelsBoundWeights};
-ghost use Rattle.label_graph.specs.ImageLaws.{ImagesAreGraphs};
+ghost use Rattle.label_graph.specs.ImageLaws.{ImagesAreGraphs, ImagesKeepContents};
 
 /// Each node lies on a path from the source to the target.
 pub fn nodes_lie_on_paths()
@@ -16,4 +16,9 @@ pub fn labels_bound_weights()
 /// The image of a graph is a graph.
 pub fn images_are_graphs()
     ensures { ImagesAreGraphs }
+{}
+
+/// The content of each path from the source to the target is that of such a path of the image.
+pub fn images_keep_contents()
+    ensures { ImagesKeepContents }
 {}
