@@ -2,3 +2,4 @@ pub mod Paths
 pub mod Merging
 pub mod ImageGraphs
 pub mod ImagePaths
+pub mod OneImage

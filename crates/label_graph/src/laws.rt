@@ -1,7 +1,7 @@
 //! What holds of all graphs. Each function is empty: a call brings its law in as a fact.
 
 ghost use Rattle.label_graph.specs.GraphLaws.{NodesLieOnPaths, LabelsBoundWeights};
-ghost use Rattle.label_graph.specs.ImageLaws.{ImagesAreGraphs, ImagesKeepContents};
+ghost use Rattle.label_graph.specs.ImageLaws.{ImagesAreGraphs, ImagesKeepContents, ImagesAreOne};
 
 /// Each node lies on a path from the source to the target.
 pub fn nodes_lie_on_paths()
@@ -21,4 +21,9 @@ pub fn images_are_graphs()
 /// The content of each path from the source to the target is that of such a path of the image.
 pub fn images_keep_contents()
     ensures { ImagesKeepContents }
+{}
+
+/// There is but one image of a graph under some labels.
+pub fn images_are_one()
+    ensures { ImagesAreOne }
 {}
