@@ -3,3 +3,4 @@ pub mod Merging
 pub mod ImageGraphs
 pub mod ImagePaths
 pub mod OneImage
+pub mod Cutting

@@ -1,7 +1,7 @@
 //! What holds of all graphs. Each function is empty: a call brings its law in as a fact.
 
 ghost use Rattle.label_graph.specs.GraphLaws.{NodesLieOnPaths, LabelsBoundWeights};
-ghost use Rattle.label_graph.specs.ImageLaws.{ImagesAreGraphs, ImagesKeepContents, ImagesAreOne};
+ghost use Rattle.label_graph.specs.ImageLaws.{ImagesAreGraphs, ImagesKeepContents, ImagesAreOne, CutsKeepImages};
 
 /// Each node lies on a path from the source to the target.
 pub fn nodes_lie_on_paths()
@@ -26,4 +26,9 @@ pub fn images_keep_contents()
 /// There is but one image of a graph under some labels.
 pub fn images_are_one()
     ensures { ImagesAreOne }
+{}
+
+/// Zeros behind all weights and labels change nothing of an image.
+pub fn cuts_keep_images()
+    ensures { CutsKeepImages }
 {}
