@@ -1,1 +1,6 @@
 pub mod Paths
+pub mod Merging
+pub mod ImageGraphs
+pub mod ImagePaths
+pub mod OneImage
+pub mod Cutting

@@ -4,7 +4,7 @@ use Rattle.weight_vec.specs.Weight.{IsInRange}
 use Rattle.label_graph.specs.declared.parts.GraphArc.{GraphArc}
 use Rattle.label_graph.specs.Graph.{GraphValue, IsGraph, IsPath, copies_along}
 use Rattle.label_graph.specs.Images.{IsLabelling, IsImage}
-use Rattle.label_graph.specs.Cuts.{IsPadded, IsPaddedGraph, cut_graph, cut_labels}
+use Rattle.label_graph.specs.Cuts.{IsPadded, cut_graph, cut_labels}
 
 -- the image of a graph is a graph
 abbrev pub ImagesAreGraphs : Type 0
