@@ -1,11 +1,11 @@
 -- The heaviest ways that arrive at the nodes, along the first arcs of a graph.
-use Rattle.std.proofs.Common.{◌≡◌, ◌≢◌, ℕ, zero, suc, ◌+◌, ◌-◌, ◌^◌, ◌<◌, ◌≤◌, ◌⊎◌, List, [], ◌∷◌, ◌++◌, length, get_or, set, take, max, map, replicate, refl, sym, ap, ◌∙◌, subst, inl, inr, ⊎_elim, arith}
-use Rattle.std.specs.Prelude.{Contains, All}
+use Rattle.std.proofs.Common.{◌≡◌, ◌≢◌, ℕ, suc, ◌+◌, ◌-◌, ◌^◌, ◌<◌, ◌≤◌, ◌⊎◌, List, [], ◌∷◌, ◌++◌, length, get_or, set, take, max, map, replicate, refl, sym, ap, ◌∙◌, subst, inl, inr, ⊎_elim, arith}
+use Rattle.std.specs.Prelude.{Contains}
 use Rattle.std.proofs.lemmas.Bool.{cases_lt, cases_eq}
-use Rattle.std.proofs.lemmas.List.{get_or_past, get_or_default, get_or_read, get_or-take, length-take, length-map, take_more, get_or-replicate, length-replicate, length-set, get_or-set_same, get_or-set_other}
+use Rattle.std.proofs.lemmas.List.{get_or_default, get_or_read, get_or-take, length-take, length-map, take_more, get_or-replicate, length-replicate, length-set, get_or-set_same, get_or-set_other}
 use Rattle.std.proofs.lemmas.List.Elements.{All-contains, All-map, Contains-get_or, Contains-append_left, Contains-push, Contains-push_cases}
 use Rattle.weight_vec.specs.Weight.{IsInRange, higher, plus}
-use Rattle.weight_vec.proofs.Places.{get_or-higher, get_or-plus, length-higher, length-plus, get_or-zeros}
+use Rattle.weight_vec.proofs.Places.{get_or-higher, get_or-plus, length-higher, get_or-zeros}
 use Rattle.label_graph.specs.declared.parts.Piece.{Piece}
 use Rattle.label_graph.specs.declared.parts.Mark.{Mark}
 use Rattle.label_graph.specs.declared.parts.Mark.TheVariants.{Loss, Piece as Carries}

@@ -1,19 +1,16 @@
 -- Labels from the source.
-use Rattle.std.proofs.Common.{◌≡◌, ℕ, zero, suc, ◌+◌, ◌-◌, ◌<◌, ◌≤◌, List, [], ◌∷◌, ◌++◌, length, get_or, refl, sym, ap, ◌∙◌, subst, ⊎_elim, arith}
+use Rattle.std.proofs.Common.{◌≡◌, ℕ, ◌+◌, ◌-◌, ◌<◌, ◌≤◌, List, [], ◌∷◌, ◌++◌, length, get_or, refl, ap, ◌∙◌, subst, ⊎_elim, arith}
 use Rattle.std.specs.Prelude.{Contains, All}
 use Rattle.std.proofs.lemmas.Bool.{cases_lt}
 use Rattle.std.proofs.lemmas.List.{get_or_past, get_or_default}
 use Rattle.std.proofs.lemmas.List.Elements.{All-contains, Contains-get_or}
 use Rattle.weight_vec.specs.Weight.{AtMost, plus}
 use Rattle.weight_vec.proofs.Places.{get_or-plus}
-use Rattle.label_graph.specs.declared.parts.Piece.{Piece}
-use Rattle.label_graph.specs.declared.parts.Mark.{Mark}
-use Rattle.label_graph.specs.declared.parts.Mark.TheVariants.{Loss, Piece as Carries}
 use Rattle.label_graph.specs.declared.parts.GraphArc.{GraphArc}
 use Rattle.label_graph.specs.Graph.{GraphValue, IsGraph, IsKnown, IsPath, weight_in, mark_weight, label_of}
 use Rattle.label_graph.specs.Images.{IsLabelling}
 use Rattle.label_graph.proofs.Paths.{IsPath-append, way_to}
-use Rattle.final_compress.specs.FinalGraphs.{IsSourceLabel, AreSourceLabels}
+use Rattle.final_compress.specs.FinalGraphs.{AreSourceLabels}
 use Rattle.final_compress.proofs.Arriving.{AreBrought, carried-sized, weight-append}
 
 module _ {N : ℕ} (g : GraphValue N) (is : IsGraph N g) where

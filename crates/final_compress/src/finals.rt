@@ -25,10 +25,7 @@ pub fn compress_final<const N: usize>(alloc: Global, graph: &Graph<N>) -> Result
 
 // The labels of all nodes from the source, in one pass from the first arc to the last. A node starts with no weight,
 // and each arc into it brings at least what its tail has and what it carries.
-fn source_labels<const N: usize>(
-    alloc: Global,
-    graph: &Graph<N>,
-) -> Result<Vec<Weights<N>>, Memory>
+fn source_labels<const N: usize>(alloc: Global, graph: &Graph<N>) -> Result<Vec<Weights<N>>, Memory>
     requires small { N ≤ 32 }
     ensures { IfOk result (λ labels. AreSourceLabels graph.now labels.items) }
 {

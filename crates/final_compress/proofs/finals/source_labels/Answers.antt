@@ -15,8 +15,7 @@ loop-arc-init g c =
 
 pub brought_by-brought-requires : goal.brought_by-brought-requires
 brought_by-brought-requires g c =
-    let lt : c.loop-arc.arc-index < length c.args.graph.now.arcs = omega (arith, ap length c.arcs-arc-items.ensures) in
-    (
+    let lt : c.loop-arc.arc-index < length c.args.graph.now.arcs = omega (arith, ap length c.arcs-arc-items.ensures) in (
       search rules,
       (
         search rules,
