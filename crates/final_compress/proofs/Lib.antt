@@ -1,0 +1,4 @@
+pub mod Members
+pub mod Arriving
+pub mod Sources
+pub mod Fewer
