@@ -5,3 +5,7 @@ pub mod WeighedPieces
 pub mod PathContents
 pub mod TypeGraphs
 pub mod ContentsFit
+pub mod PieceChoices
+pub mod PathCounts
+pub mod ContentsCovered
+pub mod ExactGraphs
