@@ -4,3 +4,12 @@ pub mod Numbering
 pub mod NodeCounts
 pub mod FlowTypes
 pub mod TypesSoFar
+pub mod PieceNumbers
+pub mod WeighedPieces
+pub mod PathContents
+pub mod TypeGraphs
+pub mod ContentsFit
+pub mod PieceChoices
+pub mod PathCounts
+pub mod ContentsCovered
+pub mod ExactGraphs
