@@ -13,3 +13,5 @@ pub mod Counting
 pub mod Uniqueness
 pub mod Leading
 pub mod Choices
+pub mod UsedWeights
+pub mod LevelGraphs
