@@ -15,3 +15,5 @@ pub mod Leading
 pub mod Choices
 pub mod UsedWeights
 pub mod LevelGraphs
+pub mod CutWeights
+pub mod CutLevels
