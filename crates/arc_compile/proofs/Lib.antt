@@ -1,2 +1,4 @@
 pub mod RankLemmas
 pub mod PieceLists
+pub mod PieceNumbers
+pub mod WeighedPieces
