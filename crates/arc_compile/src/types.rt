@@ -17,7 +17,7 @@ use arc_num::Memory;
 use final_compress::compress_final;
 use flow_graph::TypeArc;
 use label_graph::{Graph, GraphFault};
-use level_graph::levels;
+use level_graph::{level_graphs_are_graphs, levels};
 use main_compress::compress_main;
 use packing_laws::Instance;
 use std::alloc::Global;
@@ -75,6 +75,7 @@ fn main_graph<const N: usize>(
         unreachable!()
     };
     instance.known();
+    level_graphs_are_graphs();
     let pieces = match pieces_of::<N>(alloc, instance, t) {
         Ok(pieces) => pieces,
         Err(Memory) => return Err(GraphFault::Memory),
