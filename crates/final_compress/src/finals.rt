@@ -35,7 +35,8 @@ fn source_labels<const N: usize>(alloc: Global, graph: &Graph<N>) -> Result<Vec<
         let tail = arc.tail as usize - 1;
         let head = arc.head as usize - 1;
         let brought = brought_by(graph.pieces(), arc.mark, &labels[tail]);
-        labels[head] = labels[head].high(&brought);
+        let here = labels[head];
+        labels[head] = here.high(&brought);
     }
     Ok(labels)
 }

@@ -1,7 +1,7 @@
 -- Zeros behind all weights change nothing of a main graph.
 use Rattle.std.proofs.Common.{◌≡◌, ℕ, zero, suc, ◌-◌, ◌<◌, ◌≤◌, List, [], ◌∷◌, length, get_or, take, map, refl, sym, ap, ◌∙◌, subst, arith}
 use Rattle.std.specs.Prelude.{All}
-use Rattle.std.proofs.lemmas.List.{get_or-map, get_or-take, length-map, length-take}
+use Rattle.std.proofs.lemmas.List.{get_or-map, get_or-take, length-map, length-take, take_all}
 use Rattle.std.proofs.lemmas.List.Elements.{All-contains, All-weaker, Contains-get_or}
 use Rattle.weight_vec.specs.Weight.{AtMost}
 use Rattle.label_graph.specs.declared.parts.Piece.{Piece}
@@ -17,12 +17,8 @@ use Rattle.main_compress.specs.MainLaws.{CutsKeepMainGraphs}
 use Rattle.main_compress.proofs.Targets.{target-labelling}
 use Rattle.main_compress.proofs.MainPaths.{target-fits}
 
-take-nothing : {X : Type 0} (n : ℕ) → take n (let xs : List X = [] in xs) ≡ []
-take-nothing zero = refl
-take-nothing (suc n) = refl
-
 cut-weight_of : {N : ℕ} (n : ℕ) (pieces : List (Piece N)) (i : ℕ) → get_or (map (λ (q : Piece n). q.weight) (map (cut_piece n) pieces)) i [] ≡ take n (get_or (map (λ (q : Piece N). q.weight) pieces) i [])
-cut-weight_of n [] i = sym (take-nothing n)
+cut-weight_of n [] i = sym (take_all n [] (omega arith))
 cut-weight_of n (q ∷ pieces) zero = refl
 cut-weight_of n (q ∷ pieces) (suc i) = cut-weight_of n pieces i
 

@@ -49,7 +49,8 @@ fn target_labels<const N: usize>(
         let tail = arc.tail as usize - 1;
         let head = arc.head as usize - 1;
         let left = left_before(graph.pieces(), arc.mark, &labels[head]);
-        labels[tail] = labels[tail].low(&left);
+        let here = labels[tail];
+        labels[tail] = here.low(&left);
     }
     Ok(labels)
 }
