@@ -13,3 +13,4 @@ pub mod PieceChoices
 pub mod PathCounts
 pub mod ContentsCovered
 pub mod ExactGraphs
+pub mod NamedPieces
