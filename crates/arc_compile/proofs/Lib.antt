@@ -9,3 +9,5 @@ pub mod PieceChoices
 pub mod PathCounts
 pub mod ContentsCovered
 pub mod ExactGraphs
+pub mod NumberedPaths
+pub mod FaithfulGraphs
