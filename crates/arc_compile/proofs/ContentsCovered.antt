@@ -1,5 +1,5 @@
 -- Each content that fits a type and is within the demands is that of a path of its final graph.
-use Rattle.std.proofs.Common.{◌≡◌, ℕ, ◌+◌, ◌<◌, List, length, map, ◌∙◌, ap, sym, subst, get_or}
+use Rattle.std.proofs.Common.{◌≡◌, ℕ, ◌+◌, ◌<◌, List, length, ◌∙◌, ap, sym, subst, get_or}
 use Rattle.std.specs.Prelude.{All}
 use Rattle.std.proofs.lemmas.List.{length-map}
 use Rattle.packing_laws.specs.Instances.{InstanceValue, IsInstance, type_at}
@@ -7,6 +7,7 @@ use Rattle.packing_laws.specs.Packings.{Content, Fits, IsWithin}
 use Rattle.packing_laws.specs.Printed.{SameContent}
 use Rattle.label_graph.specs.declared.parts.GraphArc.{GraphArc}
 use Rattle.label_graph.specs.Graph.{GraphValue, IsPath, IsKnown, copies_along}
+use Rattle.label_graph.specs.ImageLaws.{CarriesAs}
 use Rattle.level_graph.specs.declared.states.State.{State}
 use Rattle.level_graph.specs.LevelLaws.{ChoicesHaveOnePath}
 use Rattle.main_compress.specs.MainLaws.{MainGraphsKeepContents}
@@ -18,6 +19,10 @@ use Rattle.arc_compile.proofs.PathContents.{path-known}
 use Rattle.arc_compile.proofs.PathCounts.{same_content}
 use Rattle.arc_compile.proofs.PieceChoices.{choice_of, is_choice}
 use Rattle.arc_compile.proofs.TypeGraphs.{AreGraphs, same_pieces}
+
+-- a path that carries as another, which carries as a third
+carried-twice : (first second third : List GraphArc) (n : ℕ) (content : List ℕ) → CarriesAs third second → CarriesAs second first → ((p : ℕ) → p < n → copies_along (p + 1) first ≡ get_or content p 0) → (p : ℕ) → p < n → copies_along (p + 1) third ≡ get_or content p 0
+carried-twice first second third n content later sooner copies p lt = later (p + 1) ∙ (sooner (p + 1) ∙ copies p lt)
 
 module _ (levels : ChoicesHaveOnePath) (mains : MainGraphsKeepContents) (finals : FinalGraphsKeepContents) (N : ℕ) (I : InstanceValue) (t : ℕ) (level main final : GraphValue N) (known : IsInstance I) (types : AreTypeGraphs I t level main final) (graphs : AreGraphs I t level main final) where
   -- a path of the final graph with the copies of a content's choice
@@ -39,7 +44,7 @@ module _ (levels : ChoicesHaveOnePath) (mains : MainGraphsKeepContents) (finals 
       record {
         path = third.like;
         leads = third.leads;
-        copies = λ p lt. third.carries (p + 1) ∙ (second.carries (p + 1) ∙ first.along.copies p lt);
+        copies = carried-twice first.path second.like third.like (length pieces) (choice_of pieces c) third.carries second.carries first.along.copies;
       }
 
   pub contents_covered : (c : Content) → Fits I t c → IsWithin I c → HasPathOf final c

@@ -1,11 +1,10 @@
 -- The content of each path of a final graph fits its type.
-use Rattle.std.proofs.Common.{◌≡◌, ℕ, ◌+◌, ◌-◌, ◌≤◌, List, length, subst, sym, arith, get_or}
-use Rattle.std.specs.Prelude.{All}
-use Rattle.packing_laws.specs.Instances.{InstanceValue, IsInstance, IsAmong, type_at}
+use Rattle.std.proofs.Common.{◌≡◌, ℕ, ◌+◌, ◌-◌, ◌≤◌, List, length, subst, arith, get_or}
+use Rattle.packing_laws.specs.Instances.{InstanceValue, IsAmong, type_at}
 use Rattle.packing_laws.specs.Packings.{Fits, weight_in}
 use Rattle.weight_vec.proofs.Places.{get_or-padded}
 use Rattle.label_graph.specs.declared.parts.GraphArc.{GraphArc}
-use Rattle.label_graph.specs.Graph.{GraphValue, IsPath, IsKnown, weight_in as path_weight}
+use Rattle.label_graph.specs.Graph.{GraphValue, IsPath, weight_in as path_weight}
 use Rattle.main_compress.specs.MainLaws.{MainPathsFit}
 use Rattle.final_compress.specs.FinalLaws.{FinalPathsWeighNoMore}
 use Rattle.arc_compile.specs.Exact.{content_along}
@@ -32,9 +31,9 @@ module _ (mains : MainPathsFit) (finals : FinalPathsWeighNoMore) (N : ℕ) (I : 
         bin_type = among;
         exists = content-exists I t final.pieces graphs.pieces.each path known;
         weight = λ d dim.
-        let e : d - 1 + 1 ≡ d = omega (arith, dim.0) in
-        let weighs : weight_in I (d - 1 + 1) (content_along final.pieces path) ≡ path_weight final.pieces (d - 1) path = content-weighs I t final.pieces graphs.pieces.each (d - 1) path known in
-        let same : weight_in I d (content_along final.pieces path) ≡ path_weight final.pieces (d - 1) path = subst (λ (k : ℕ). weight_in I k (content_along final.pieces path) ≡ path_weight final.pieces (d - 1) path) e weighs in
-        let fits = path-fits (d - 1) path leads in
-        omega arith;
+            let e : d - 1 + 1 ≡ d = omega (arith, dim.0) in
+            let weighs : weight_in I (d - 1 + 1) (content_along final.pieces path) ≡ path_weight final.pieces (d - 1) path = content-weighs I t final.pieces graphs.pieces.each (d - 1) path known in
+            let same : weight_in I d (content_along final.pieces path) ≡ path_weight final.pieces (d - 1) path = subst (λ (k : ℕ). weight_in I k (content_along final.pieces path) ≡ path_weight final.pieces (d - 1) path) e weighs in
+            let fits = path-fits (d - 1) path leads in
+            omega arith;
       }

@@ -14,3 +14,5 @@ pub mod PathCounts
 pub mod ContentsCovered
 pub mod ExactGraphs
 pub mod NamedPieces
+pub mod NumberedPaths
+pub mod FaithfulGraphs

@@ -1,6 +1,6 @@
 -- What the arcs of a path carry, as a content.
-use Rattle.std.proofs.Common.{◌≡◌, ℕ, ◌+◌, ◌-◌, ◌*◌, ◌<◌, ◌≤◌, List, [], ◌∷◌, length, map, sum_by, ap, ap₂, sym, refl, ◌∙◌, subst, arith, get_or, slice_index}
-use Rattle.std.specs.Prelude.{All, Contains}
+use Rattle.std.proofs.Common.{◌≡◌, ℕ, ◌+◌, ◌-◌, ◌*◌, ◌<◌, List, [], ◌∷◌, length, ap, ap₂, refl, ◌∙◌, arith, get_or, slice_index}
+use Rattle.std.specs.Prelude.{All}
 use Rattle.std.proofs.lemmas.List.{get_or-map}
 use Rattle.std.proofs.lemmas.List.Elements.{All-nil, All-cons, All-head, All-tail, All-contains}
 use Rattle.std.proofs.lemmas.List.Sums.{sum_by-cons}
@@ -14,7 +14,7 @@ use Rattle.label_graph.specs.declared.parts.Mark.TheVariants.{Loss, Piece as Car
 use Rattle.label_graph.specs.declared.parts.Piece.{Piece}
 use Rattle.label_graph.specs.Graph.{IsKnown, IsPath, mark_weight, weight_in as path_weight}
 use Rattle.arc_compile.specs.Exact.{marked_item, marked_form, with_mark, content_along}
-use Rattle.arc_compile.specs.Pieces.{padded, IsPiece}
+use Rattle.arc_compile.specs.Pieces.{IsPiece}
 
 -- the unit that a mark with a piece carries
 abbrev pub unit_at : {N : ℕ} → List (Piece N) → ℕ → Count

@@ -1,15 +1,14 @@
 -- How many units of a form the arcs of a path carry.
-use Rattle.std.proofs.Common.{zero, suc, ◌≡◌, ℕ, ◌+◌, ◌-◌, ◌*◌, ◌<◌, ◌≤◌, inl, inr, ⊎_elim, Bool, true, false, cond, ◌==◌, ◌&&◌, List, [], ◌∷◌, length, map, sum_by, ap, ap₂, subst₂, sym, refl, ◌∙◌, subst, arith, get_or, slice_index}
+use Rattle.std.proofs.Common.{zero, suc, ◌≡◌, ℕ, ◌+◌, ◌-◌, ◌*◌, ◌<◌, ◌≤◌, inl, inr, ⊎_elim, Bool, true, false, cond, ◌==◌, ◌&&◌, List, [], ◌∷◌, length, ap, ap₂, subst₂, sym, refl, ◌∙◌, subst, arith, get_or, slice_index}
 use Rattle.std.specs.Prelude.{◌⊎◌, All, AllPairs, Contains}
 use Rattle.std.proofs.lemmas.Bool.{cases_lt, cases_eq, cases_order, cases_Bool, and_from, and_parts, eqb-true, eq-eqb, ne_eqb, cond-true, cond-false, false_from_ne_true}
 use Rattle.std.proofs.lemmas.List.{get_or-map}
-use Rattle.std.proofs.lemmas.List.Elements.{All-nil, All-cons, All-head, All-tail, All-contains}
+use Rattle.std.proofs.lemmas.List.Elements.{All-cons, All-head, All-tail, All-contains}
 use Rattle.std.proofs.lemmas.List.Sums.{sum_by-cons, get_or-le-sum_by}
 use Rattle.std.proofs.Math.Nat.{mul-le-mul_right}
 use Rattle.packing_laws.specs.declared.packings.Count.{Count}
 use Rattle.packing_laws.specs.Instances.{InstanceValue, IsInstance, type_at, item_at, form_at}
 use Rattle.packing_laws.specs.Packings.{Content, Fits, IsWithin, count_of_item, count_of_form, weight_in}
-use Rattle.packing_laws.specs.Floors.{vector_fits}
 use Rattle.packing_laws.specs.Printed.{SameContent}
 use Rattle.packing_laws.proofs.PackedItems.{vector_fits-from, positive_term}
 use Rattle.label_graph.specs.declared.parts.GraphArc.{GraphArc}
@@ -17,7 +16,7 @@ use Rattle.label_graph.specs.declared.parts.Mark.{Mark}
 use Rattle.label_graph.specs.declared.parts.Mark.TheVariants.{Loss, Piece as Carries}
 use Rattle.label_graph.specs.declared.parts.Piece.{Piece}
 use Rattle.label_graph.specs.Graph.{IsKnown, mark_copies, copies_along}
-use Rattle.arc_compile.specs.Exact.{marked_item, marked_form, with_mark, content_along}
+use Rattle.arc_compile.specs.Exact.{with_mark, content_along}
 use Rattle.arc_compile.specs.Pieces.{padded, IsPiece, ArePieces}
 use Rattle.arc_compile.proofs.PathContents.{no_piece, piece_at, unit_at, item-at, form-at}
 use Rattle.arc_compile.proofs.PieceChoices.{AreApart, choice_of}

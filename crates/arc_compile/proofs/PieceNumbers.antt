@@ -1,5 +1,5 @@
 -- The pieces of a type are at most as many as the forms of all items.
-use Rattle.std.proofs.Common.{◌≡◌, ℕ, ◌+◌, ◌-◌, ◌<◌, ◌≤◌, inl, inr, ⊎_elim, [], List, length, true, false, eqb, map, take, take-take, sum_by, ap, ap₂, sym, refl, ◌∷◌, ◌∙◌, arith, get_or}
+use Rattle.std.proofs.Common.{◌≡◌, ℕ, ◌+◌, ◌-◌, ◌<◌, ◌≤◌, inl, inr, [], List, length, eqb, map, take, take-take, sum_by, ap, ap₂, sym, refl, ◌∷◌, ◌∙◌, arith, get_or}
 use Rattle.std.specs.Prelude.{AllPairs, All}
 use Rattle.std.specs.Ordering.{nat_cmp}
 use Rattle.std.specs.Cmp.Lexicographic.{slice_cmp}
@@ -7,7 +7,7 @@ use Rattle.std.specs.declared.cmp.Ordering.TheVariants.{Less, Equal}
 use Rattle.std.proofs.lemmas.Bool.{cases_order, eqb-true, ne_eqb}
 use Rattle.std.proofs.lemmas.List.{length-map, get_or-map}
 use Rattle.std.proofs.lemmas.List.Elements.{All-map, All-contains}
-use Rattle.std.proofs.lemmas.List.Sums.{sum_by-take-le, sum_by_more, sum_by_more_le}
+use Rattle.std.proofs.lemmas.List.Sums.{sum_by-take-le, sum_by_more}
 use Rattle.std.proofs.lemmas.Map.Keys.{IsDistinct-from_apart, Less-from_sorted}
 use Rattle.std.proofs.lemmas.Map.Steps.{length-le_from_distinct_below}
 use Rattle.std.proofs.lemmas.Map.Views.{Contains-from_any}
@@ -32,7 +32,7 @@ numbered-le number n xs x below apart =
     let size : length (map number xs) ≡ length xs = length-map xs number in
     let at : (k d : ℕ) → k < length xs → get_or (map number xs) k d ≡ number (get_or xs k x) = λ k d lt. get_or-map number xs k x d lt in
     let distinct = IsDistinct-from_apart eqb (map number xs) (
-      λ i j d lt in_range. ne_eqb (get_or (map number xs) i d) (get_or (map number xs) j d) (λ e. apart i j x lt (omega arith) (sym (at i d (omega arith)) ∙ (e ∙ at j d (omega arith))))
+    λ i j d lt in_range. ne_eqb (get_or (map number xs) i d) (get_or (map number xs) j d) (λ e. apart i j x lt (omega arith) (sym (at i d (omega arith)) ∙ (e ∙ at j d (omega arith))))
     ) in
     let few : length (map number xs) ≤ n = length-le_from_distinct_below (map number xs) n distinct (λ q found. All-contains (λ (k : ℕ). k < n) (map number xs) q (All-map (λ (k : ℕ). k < n) number xs below) (Contains-from_any eqb-true q (map number xs) found)) in
     omega arith

@@ -1,5 +1,5 @@
 -- The pieces of a type and its capacity have as many places as the graph, and numbers in range.
-use Rattle.std.proofs.Common.{◌≡◌, ℕ, ◌+◌, ◌-◌, ◌^◌, ◌<◌, ◌≤◌, ⊎_elim, [], List, length, length-append, replicate, ap, sym, ◌∙◌, arith, get_or, subst, None}
+use Rattle.std.proofs.Common.{◌≡◌, ℕ, ◌+◌, ◌-◌, ◌≤◌, ⊎_elim, [], List, length, length-append, replicate, sym, arith, get_or, subst, None}
 use Rattle.std.specs.Prelude.{All}
 use Rattle.std.proofs.lemmas.Bool.{cases_lt}
 use Rattle.std.proofs.lemmas.List.{length-replicate, get_or_past}
