@@ -2,22 +2,57 @@
 
 ghost use Rattle.arc_compile.specs.CompileLaws.{FinalGraphsAreExact, CompiledGraphsAreFaithful, PaddingKeepsGraphs, SizesAreOne};
 
+use final_compress::{
+    cuts_keep_final_graphs, final_graphs_are_graphs, final_graphs_keep_contents,
+    final_paths_weigh_no_more,
+};
+use level_graph::{
+    choices_have_one_path, cuts_keep_level_graphs, level_graphs_are_graphs, levels_are_one,
+};
+use main_compress::{
+    cuts_keep_main_graphs, main_graphs_are_graphs, main_graphs_are_one, main_graphs_keep_contents,
+    main_paths_fit,
+};
+
 /// The paths of a type's final graph are the contents that fit the type.
 pub fn final_graphs_are_exact()
     ensures { FinalGraphsAreExact }
-{}
+{
+    level_graphs_are_graphs();
+    choices_have_one_path();
+    main_graphs_are_graphs();
+    main_paths_fit();
+    main_graphs_keep_contents();
+    final_graphs_are_graphs();
+    final_paths_weigh_no_more();
+    final_graphs_keep_contents();
+}
 
 /// The numbered arcs of a compiled instance are faithful to it.
 pub fn compiled_graphs_are_faithful()
     ensures { CompiledGraphsAreFaithful }
-{}
+{
+    level_graphs_are_graphs();
+    main_graphs_are_graphs();
+    final_graphs_are_graphs();
+    final_graphs_are_exact();
+}
 
 /// Zeros behind all weights and capacities change nothing of the graphs of a type.
 pub fn padding_keeps_graphs()
     ensures { PaddingKeepsGraphs }
-{}
+{
+    level_graphs_are_graphs();
+    cuts_keep_level_graphs();
+    main_graphs_are_graphs();
+    cuts_keep_main_graphs();
+    cuts_keep_final_graphs();
+}
 
 /// No instance is both small and too large, and but one type is the first with which it is too large.
 pub fn sizes_are_one()
     ensures { SizesAreOne }
-{}
+{
+    levels_are_one();
+    main_graphs_are_one();
+}
