@@ -5,9 +5,9 @@ use Rattle.packing_laws.specs.declared.fault.ReadFault.TheVariants as read
 use Rattle.arc_program.specs.declared.words.WordFault.{WordFault}
 use Rattle.arc_program.specs.declared.words.WordFault.TheVariants as word
 use Rattle.arc_program.specs.declared.refusals.Refusal.{Refusal}
-use Rattle.arc_program.specs.declared.refusals.Refusal.TheVariants.{Words, Unread, Long, BadPlace, Unwritten, Memory}
+use Rattle.arc_program.specs.declared.refusals.Refusal.TheVariants.{Words, Unread, Long, BadPlace, Large, Unwritten, Memory}
 use Rattle.arc_program.specs.declared.status.Status.{Status}
-use Rattle.arc_program.specs.declared.status.Status.TheVariants.{Usage, BadInstance, ReadFault as ReadFaults, WriteFault, NoMemory}
+use Rattle.arc_program.specs.declared.status.Status.TheVariants.{Usage, BadInstance, ReadFault as ReadFaults, WriteFault, NoMemory, TooLarge}
 
 -- a line about something that has a name
 abbrev pub named_line : List ℕ → List ℕ → List ℕ
@@ -61,12 +61,17 @@ unread_line name = codes "vpack: cannot read " ++ name ++ codes "\n"
 abbrev pub long_line : List ℕ → List ℕ
 long_line name = named_line name (codes "too long")
 
+-- the line on graphs that have too many arcs from type t on
+abbrev pub large_line : List ℕ → ℕ → List ℕ
+large_line name t = codes "vpack: " ++ name ++ codes ": type " ++ decimal t ++ codes ": too many arcs\n"
+
 -- the line on a refusal
 abbrev pub refusal_line : Refusal → List ℕ
 refusal_line (Words fault) = word_fault_line fault
 refusal_line (Unread name) = unread_line (string_bytes name)
 refusal_line (Long name) = long_line (string_bytes name)
 refusal_line (BadPlace name fault) = place_line (string_bytes name) fault
+refusal_line (Large name t) = large_line (string_bytes name) t
 refusal_line Unwritten = output_line
 refusal_line Memory = memory_line
 
@@ -76,5 +81,6 @@ refusal_status (Words fault) = Usage
 refusal_status (Unread name) = ReadFaults
 refusal_status (Long name) = BadInstance
 refusal_status (BadPlace name fault) = BadInstance
+refusal_status (Large name t) = TooLarge
 refusal_status Unwritten = WriteFault
 refusal_status Memory = NoMemory

@@ -4,6 +4,7 @@ use Rattle.std.specs.List.{flat_map}
 use Rattle.packing_laws.specs.declared.packings.Count.{Count}
 use Rattle.packing_laws.specs.declared.packings.Bin.{Bin}
 use Rattle.packing_laws.specs.Instances.{InstanceValue, units_of}
+use Rattle.arc_compile.specs.declared.compiled.TypeSize.{TypeSize}
 use Rattle.arc_program.specs.declared.answers.Answer.{Answer}
 use Rattle.arc_program.specs.declared.answers.Answer.TheVariants.{Optimal, Bracket, Unpacked, Infeasible}
 
@@ -48,15 +49,30 @@ dims_and_types I = codes "dims " ++ decimal I.dims ++ codes " types " ++ decimal
 abbrev pub items_and_units : InstanceValue → List ℕ
 items_and_units I = codes " items " ++ decimal (length I.items) ++ codes " units " ++ decimal (units_of I) ++ codes "\n"
 
--- a line for the level graph of type t, with its nodes and arcs
-abbrev pub level_line : ℕ → ℕ × ℕ → List ℕ
-level_line t level = codes "type " ++ decimal t ++ codes " level " ++ decimal level.0 ++ codes " " ++ decimal level.1 ++ codes "\n"
+-- how many nodes and arcs a graph of this name has, behind a space
+abbrev pub size_text : List ℕ → ℕ → ℕ → List ℕ
+size_text name nodes arcs = name ++ decimal nodes ++ codes " " ++ decimal arcs
 
--- a line for each level graph, from type t on
-abbrev pub level_lines : ℕ → List (ℕ × ℕ) → List ℕ
-level_lines t [] = []
-level_lines t (level ∷ levels) = level_line t level ++ level_lines (t + 1) levels
+-- the line on the graphs of type t, in three parts
+abbrev pub type_and_level : ℕ → ℕ × ℕ → List ℕ
+type_and_level t level = codes "type " ++ decimal t ++ size_text (codes " level ") level.0 level.1
 
--- the report on the level graphs of an instance
-abbrev pub levels_text : InstanceValue → List (ℕ × ℕ) → List ℕ
-levels_text I levels = dims_and_types I ++ items_and_units I ++ level_lines 1 levels
+abbrev pub main_and_final : TypeSize → List ℕ
+main_and_final size = size_text (codes " main ") size.main_nodes size.main_arcs ++ size_text (codes " final ") size.final_nodes size.final_arcs ++ codes "\n"
+
+abbrev pub type_line : ℕ → ℕ × ℕ → TypeSize → List ℕ
+type_line t level size = type_and_level t level ++ main_and_final size
+
+-- a line for each type, from type t on
+abbrev pub type_lines : ℕ → List (ℕ × ℕ) → List TypeSize → List ℕ
+type_lines t [] sizes = []
+type_lines t (level ∷ levels) [] = []
+type_lines t (level ∷ levels) (size ∷ sizes) = type_line t level size ++ type_lines (t + 1) levels sizes
+
+-- the line on the numbered arcs of all types
+abbrev pub arcs_line : ℕ → List ℕ
+arcs_line arcs = codes "arcs " ++ decimal arcs ++ codes "\n"
+
+-- the report on the graphs of an instance
+abbrev pub graphs_text : InstanceValue → List (ℕ × ℕ) → List TypeSize → ℕ → List ℕ
+graphs_text I levels sizes arcs = dims_and_types I ++ items_and_units I ++ type_lines 1 levels sizes ++ arcs_line arcs

@@ -4,7 +4,11 @@ use Rattle.arc_num.specs.declared.TheConstants.{MAX_INSTANCE}
 use Rattle.arc_io.specs.declared.IoFault.{IoFault}
 use Rattle.arc_io.specs.Faults.{Rose, CountsFault}
 use Rattle.arc_io.specs.Bytes.{Told, Files, Appends}
+use Rattle.arc_compile.specs.declared.compiled.TypeSize.{TypeSize}
 use Rattle.arc_compile.specs.Levels.{AreLevelSizes}
+use Rattle.arc_compile.specs.Graphs.{IsSmall, IsTooLarge}
+use Rattle.arc_compile.specs.Compiled.{AreCompiled}
+use Rattle.flow_graph.specs.Arcs.{TypeValue, numbered}
 use Rattle.packing_laws.specs.declared.fault.ReadFault.{ReadFault}
 use Rattle.packing_laws.specs.Instances.{InstanceValue}
 use Rattle.packing_laws.specs.Layouts as layouts
@@ -14,11 +18,11 @@ use Rattle.arc_program.specs.declared.answers.Answer.TheVariants.{Optimal, Brack
 use Rattle.arc_program.specs.declared.status.Status.{Status}
 use Rattle.arc_program.specs.declared.status.Status.TheVariants.{Done, Bracketed, Usage, BadInstance, BadCertificate, ReadFault as ReadFaults, WriteFault, NoMemory, TooLarge}
 use Rattle.arc_program.specs.declared.refusals.Refusal.{Refusal}
-use Rattle.arc_program.specs.declared.refusals.Refusal.TheVariants.{Words, Unread, Long, BadPlace, Unwritten, Memory}
+use Rattle.arc_program.specs.declared.refusals.Refusal.TheVariants.{Words, Unread, Long, BadPlace, Large, Unwritten, Memory}
 use Rattle.arc_program.specs.Words.{Word, Request, Compiles, Solves, words_of}
 use Rattle.arc_program.specs.Answers.{IsAnswer}
-use Rattle.arc_program.specs.Reports.{answer_text, levels_text}
-use Rattle.arc_program.specs.Refusals.{refusal_line, refusal_status, memory_line, long_line, place_line}
+use Rattle.arc_program.specs.Reports.{answer_text, graphs_text}
+use Rattle.arc_program.specs.Refusals.{refusal_line, refusal_status, memory_line, long_line, place_line, large_line}
 use Rattle.arc_program.specs.Printing.{TakesPrefix}
 
 -- the name of the instance that is asked about
@@ -51,6 +55,15 @@ IsBadAt request bytes fault = (length bytes ≤ MAX_INSTANCE) × layouts.BadPlac
 abbrev pub IsRefused : Request → List ℕ → Type 0
 IsRefused request bytes = IsLong bytes ⊎ ((fault : ReadFault) × IsBadAt request bytes fault)
 
+-- what is asked for is made of the graphs of the instance
+abbrev pub MakesGraphs : Request → Type 0
+MakesGraphs (Compiles name mvp) = Unit {0}
+MakesGraphs (Solves name mvp) = ⊥
+
+-- the bytes spell an instance whose graphs are too large from type t on
+abbrev pub IsLargeAt : Request → ℕ → List ℕ → Type 0
+IsLargeAt request t bytes = (I : InstanceValue) × IsAccepted request bytes I × IsTooLarge I t
+
 -- how a run ends that has printed an answer
 abbrev pub answer_status : Answer → Status
 answer_status (Optimal cost bins) = Done
@@ -58,13 +71,19 @@ answer_status (Bracket lower cost bins) = Bracketed
 answer_status (Unpacked lower) = Bracketed
 answer_status Infeasible = Done
 
--- the text is the report on the level graphs of the instance
-abbrev pub IsLevelReport : InstanceValue → Status → List ℕ → Type 0
-IsLevelReport I status text = (levels : List (ℕ × ℕ)) × AreLevelSizes I levels × (text ≡ levels_text I levels) × (status ≡ Done)
+-- the text is the report on the graphs of the instance: their sizes, and how many numbered arcs there are
+pub record IsGraphReport (I : InstanceValue) (status : Status) (text : List ℕ) : Type 0 where
+  pub levels : List (ℕ × ℕ)
+  pub graph : List TypeValue
+  pub sizes : List TypeSize
+  pub are_levels : AreLevelSizes I levels
+  pub are_compiled : AreCompiled I graph sizes
+  pub text_is : text ≡ graphs_text I levels sizes (length (numbered graph))
+  pub status_is : status ≡ Done
 
 -- the text is the report that is owed for the instance, and this is the status
 abbrev pub IsReport : Request → InstanceValue → Status → List ℕ → Type 0
-IsReport (Compiles name mvp) I status text = IsLevelReport I status text
+IsReport (Compiles name mvp) I status text = IsGraphReport I status text
 IsReport (Solves name mvp) I status text = (answer : Answer) × IsAnswer I answer × (text ≡ answer_text answer) × (status ≡ answer_status answer)
 
 -- of the bytes under the name that is asked about, where they are told: they spell an instance, and P holds of a report on it
@@ -77,6 +96,7 @@ IsOwed words held before after (Words fault) = (words_of words ≡ Err fault) ×
 IsOwed words held before after (Unread name) = IsOkAnd (words_of words) (λ request. string_bytes name ≡ name_of request) × (after ≡ before)
 IsOwed words held before after (Long name) = IsOkAnd (words_of words) (λ request. (string_bytes name ≡ name_of request) × IfSome (held (name_of request)) IsLong) × (after ≡ before)
 IsOwed words held before after (BadPlace name fault) = IsOkAnd (words_of words) (λ request. (string_bytes name ≡ name_of request) × IfSome (held (name_of request)) (λ bytes. IsBadAt request bytes fault)) × (after ≡ before)
+IsOwed words held before after (Large name t) = IsOkAnd (words_of words) (λ request. MakesGraphs request × (string_bytes name ≡ name_of request) × IfSome (held (name_of request)) (IsLargeAt request t)) × (after ≡ before)
 IsOwed words held before after Unwritten = (status : Status) × HasReport words held status (λ text. TakesPrefix text before after)
 IsOwed words held before after Memory = (after ≡ before) ⊎ ((status : Status) × HasReport words held status (λ text. TakesPrefix text before after))
 
@@ -87,6 +107,7 @@ CountsReads (Err (Words fault)) before after = after ≡ before
 CountsReads (Err (Unread name)) before after = Rose before after
 CountsReads (Err (Long name)) before after = after ≡ before
 CountsReads (Err (BadPlace name fault)) before after = after ≡ before
+CountsReads (Err (Large name t)) before after = after ≡ before
 CountsReads (Err Unwritten) before after = after ≡ before
 CountsReads (Err Memory) before after = after ≡ before
 
@@ -97,6 +118,7 @@ CountsPuts (Err (Words fault)) before after = after ≡ before
 CountsPuts (Err (Unread name)) before after = after ≡ before
 CountsPuts (Err (Long name)) before after = after ≡ before
 CountsPuts (Err (BadPlace name fault)) before after = after ≡ before
+CountsPuts (Err (Large name t)) before after = after ≡ before
 CountsPuts (Err Unwritten) before after = Rose before after
 CountsPuts (Err Memory) before after = after ≡ before
 
@@ -110,6 +132,7 @@ IfUnread (Words fault) P = Unit {0}
 IfUnread (Unread name) P = P
 IfUnread (Long name) P = Unit {0}
 IfUnread (BadPlace name fault) P = Unit {0}
+IfUnread (Large name t) P = Unit {0}
 IfUnread Unwritten P = Unit {0}
 IfUnread Memory P = Unit {0}
 
@@ -125,9 +148,14 @@ SaysWhy request bytes before after faults_before faults_after =
     (IsLong bytes × Says (long_line (name_of request)) before after faults_before faults_after)
     ⊎ ((fault : ReadFault) × IsBadAt request bytes fault × Says (place_line (name_of request) fault) before after faults_before faults_after)
 
--- the words are a request, and the bytes under its name are told and spell an instance
+-- that the graphs are too large was said
+abbrev pub SaysLarge : Request → List ℕ → Told → Told → ℕ → ℕ → Type 0
+SaysLarge request bytes before after faults_before faults_after = (t : ℕ) × IsLargeAt request t bytes × Says (large_line (name_of request) t) before after faults_before faults_after
+
+-- the words are a request, and the bytes under its name are told and spell an instance, which is small where graphs are
+-- made of it
 abbrev pub HasInstance : List Word → Files → Type 0
-HasInstance words held = IsOkAnd (words_of words) (λ request. IsSomeAnd (held (name_of request)) (λ bytes. (I : InstanceValue) × IsAccepted request bytes I))
+HasInstance words held = IsOkAnd (words_of words) (λ request. IsSomeAnd (held (name_of request)) (λ bytes. (I : InstanceValue) × IsAccepted request bytes I × (MakesGraphs request → IsSmall I)))
 
 -- the report was taken whole
 abbrev pub IsReported : Status → Type 0

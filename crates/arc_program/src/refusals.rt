@@ -1,7 +1,7 @@
 //! What the program refuses, and what it says then.
 
 ghost use Rattle.std.specs.Prelude.{◌≡◌, ◌++◌, IfOk, string_bytes, codes};
-ghost use Rattle.arc_program.specs.Refusals.{word_line, word_fault_line, token_line, place_line, refusal_line, refusal_status, named_line, no_weight};
+ghost use Rattle.arc_program.specs.Refusals.{word_line, word_fault_line, token_line, place_line, refusal_line, refusal_status, named_line, no_weight, large_line};
 
 use crate::status::Status;
 use crate::words::WordFault;
@@ -19,6 +19,8 @@ pub enum Refusal {
     Long { name: String },
     /// The text is no instance: its first bad place.
     BadPlace { name: String, fault: ReadFault },
+    /// The main graphs of the types up to this one have more than 1,000,000 arcs together.
+    Large { name: String, t: u32 },
     /// The report could not be written.
     Unwritten,
     /// Want of memory.
@@ -100,6 +102,12 @@ fn long_text(alloc: Global, name: &str) -> Result<String, AllocError>
     format!(in alloc; "vpack: {name}: too long\n")
 }
 
+fn large_text(alloc: Global, name: &str, t: u32) -> Result<String, AllocError>
+    ensures { IfOk result (λ line. string_bytes line ≡ large_line name.now t) }
+{
+    format!(in alloc; "vpack: {name}: type {t}: too many arcs\n")
+}
+
 /// The line on a refusal.
 pub fn refusal_text(alloc: Global, refusal: &Refusal) -> Result<String, AllocError>
     ensures { IfOk result (λ line. string_bytes line ≡ refusal_line refusal.now) }
@@ -109,6 +117,7 @@ pub fn refusal_text(alloc: Global, refusal: &Refusal) -> Result<String, AllocErr
         Refusal::Unread { name } => unread_text(alloc, name.as_str()),
         Refusal::Long { name } => long_text(alloc, name.as_str()),
         Refusal::BadPlace { name, fault } => place_text(alloc, name.as_str(), *fault),
+        Refusal::Large { name, t } => large_text(alloc, name.as_str(), *t),
         Refusal::Unwritten => String::from_str(alloc, "vpack: cannot write output\n"),
         Refusal::Memory => String::from_str(alloc, "vpack: out of memory\n"),
     }
@@ -124,6 +133,7 @@ impl Refusal {
             Refusal::Unread { .. } => Status::ReadFault,
             Refusal::Long { .. } => Status::BadInstance,
             Refusal::BadPlace { .. } => Status::BadInstance,
+            Refusal::Large { .. } => Status::TooLarge,
             Refusal::Unwritten => Status::WriteFault,
             Refusal::Memory => Status::NoMemory,
         }

@@ -1,9 +1,11 @@
 //! The texts of reports.
 
-ghost use Rattle.std.specs.Prelude.{◌≡◌, ◌++◌, OnOk, IfOk};
-ghost use Rattle.arc_program.specs.Reports.{count_text, counts_text, bin_text, bins_text, bins_in, first_line, answer_text, dims_and_types, items_and_units, level_line, level_lines, levels_text};
+ghost use Rattle.std.specs.Prelude.{◌≡◌, ◌++◌, OnOk, IfOk, length};
+ghost use Rattle.arc_program.specs.Reports.{count_text, counts_text, bin_text, bins_text, bins_in, first_line, answer_text, dims_and_types, items_and_units, size_text, type_and_level, main_and_final, type_lines, arcs_line, graphs_text};
+ghost use Rattle.flow_graph.specs.Arcs.{numbered};
 
 use crate::answers::Answer;
+use arc_compile::{Compiled, TypeSize};
 use arc_num::{Memory, push_number};
 use packing_laws::{Bin, Count, Instance};
 use std::alloc::Global;
@@ -120,38 +122,78 @@ fn push_items_and_units(out: &mut Vec<u8>, instance: &Instance) -> Result<(), Me
     push_bytes(out, b"\n")
 }
 
-fn push_level_line(out: &mut Vec<u8>, t: usize, level: (u128, u128)) -> Result<(), Memory>
-    ensures { OnOk result (out.new.items ≡ out.old.items ++ level_line t level) }
+fn push_size(out: &mut Vec<u8>, name: &[u8], nodes: u128, arcs: u128) -> Result<(), Memory>
+    ensures { OnOk result (out.new.items ≡ out.old.items ++ size_text name.now nodes arcs) }
+{
+    push_bytes(out, name)?;
+    push_number(out, nodes)?;
+    push_bytes(out, b" ")?;
+    push_number(out, arcs)
+}
+
+fn push_type_and_level(out: &mut Vec<u8>, t: usize, level: (u128, u128)) -> Result<(), Memory>
+    ensures { OnOk result (out.new.items ≡ out.old.items ++ type_and_level t level) }
 {
     push_bytes(out, b"type ")?;
     push_number(out, t as u128)?;
-    push_bytes(out, b" level ")?;
-    push_number(out, level.0)?;
-    push_bytes(out, b" ")?;
-    push_number(out, level.1)?;
+    push_size(out, b" level ", level.0, level.1)
+}
+
+fn push_main_and_final(out: &mut Vec<u8>, size: TypeSize) -> Result<(), Memory>
+    ensures { OnOk result (out.new.items ≡ out.old.items ++ main_and_final size) }
+{
+    push_size(
+        out,
+        b" main ",
+        u128::from(size.main_nodes),
+        u128::from(size.main_arcs),
+    )?;
+    push_size(
+        out,
+        b" final ",
+        u128::from(size.final_nodes),
+        u128::from(size.final_arcs),
+    )?;
     push_bytes(out, b"\n")
 }
 
-fn push_level_lines(out: &mut Vec<u8>, levels: &[(u128, u128)]) -> Result<(), Memory>
-    ensures { OnOk result (out.new.items ≡ out.old.items ++ level_lines 1 levels.now) }
+fn push_type_lines(
+    out: &mut Vec<u8>,
+    levels: &[(u128, u128)],
+    sizes: &[TypeSize],
+) -> Result<(), Memory>
+    requires { length sizes.now ≡ length levels.now }
+    ensures { OnOk result (out.new.items ≡ out.old.items ++ type_lines 1 levels.now sizes.now) }
 {
     for (t, level) in levels.iter().enumerate() {
-        push_level_line(out, t + 1, *level)?;
+        push_type_and_level(out, t + 1, *level)?;
+        push_main_and_final(out, sizes[t])?;
     }
     Ok(())
 }
 
-/// The report of `compile`, with the nodes and arcs of each type's level graph.
+fn push_arcs_line(out: &mut Vec<u8>, arcs: u32) -> Result<(), Memory>
+    ensures { OnOk result (out.new.items ≡ out.old.items ++ arcs_line arcs) }
+{
+    push_bytes(out, b"arcs ")?;
+    push_number(out, u128::from(arcs))?;
+    push_bytes(out, b"\n")
+}
+
+/// The report of `compile`: the nodes and arcs of each type's level graph, and what was compiled.
 pub fn compile_text(
     alloc: Global,
     instance: &Instance,
+    compiled: &Compiled,
     levels: &[(u128, u128)],
 ) -> Result<Vec<u8>, Memory>
-    ensures { IfOk result (λ text. text.items ≡ levels_text instance.now levels.now) }
+    requires { length compiled.now.sizes ≡ length levels.now }
+    ensures { IfOk result (λ text. text.items ≡ graphs_text instance.now levels.now compiled.now.sizes (length (numbered compiled.now.graph))) }
 {
     let mut out = Vec::new(alloc);
     push_dims_and_types(&mut out, instance)?;
     push_items_and_units(&mut out, instance)?;
-    push_level_lines(&mut out, levels)?;
+    push_type_lines(&mut out, levels, compiled.sizes.as_slice())?;
+    push_arcs_line(&mut out, compiled.graph.arc_count())?;
     Ok(out)
 }

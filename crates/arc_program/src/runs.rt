@@ -8,7 +8,9 @@ ghost use Rattle.arc_program.specs.Loading.{KeepsWrites};
 ghost use Rattle.arc_program.specs.Printing.{TakesAll, TakesPrefix};
 ghost use Rattle.arc_program.specs.Refusals.{memory_line, output_line, unread_line, word_fault_line};
 ghost use Rattle.arc_program.specs.Inputs.{IsInput, CountsInput};
-ghost use Rattle.arc_program.specs.Runs.{name_of, HasInstance, HasReport, IsOwed, IsRefused, IsReported, IsEarly, IsSaid, CountsReads, CountsPuts, IfUnread, Says, SaysWhy};
+ghost use Rattle.arc_program.specs.Runs.{name_of, HasInstance, HasReport, HasSmall, IsAccepted, IsLargeAt, IsOwed, IsRefused, IsReported, IsEarly, IsSaid, MakesGraphs, CountsReads, CountsPuts, IfUnread, Says, SaysWhy, SaysLarge};
+ghost use Rattle.packing_laws.specs.Instances.{InstanceValue};
+ghost use Rattle.arc_compile.specs.Graphs.{IsTooLarge};
 
 use crate::inputs::{InputFault, load_instance};
 use crate::printing::put_lines;
@@ -16,8 +18,8 @@ use crate::refusals::{Refusal, refusal_text};
 use crate::status::Status;
 use crate::tasks::report_on;
 use crate::words::{WordFault, read_words};
+use arc_compile::CompileFault;
 use arc_io::{IoFault, Shelf, Sink};
-use arc_num::Memory;
 use std::alloc::Global;
 use std::thread::Threads;
 
@@ -49,14 +51,29 @@ fn input_refusal(name: String, fault: InputFault) -> Refusal
     }
 }
 
+/// The refusal that a fault of the graphs of the instance under this name is.
+fn graph_refusal(name: String, fault: CompileFault) -> Refusal
+    ensures owed { (words : List Word) (held : Files) (taken : Told) (request : Request) (I : InstanceValue) → words_of words ≡ Ok request → string_bytes name ≡ name_of request → IfSome (held (name_of request)) (λ bytes. IsAccepted request bytes I) → ((t : ℕ) → fault ≡ CompileFault.TooManyArcs t → MakesGraphs request × IsTooLarge I t) → IsOwed words held taken taken result }
+    ensures reads { (n : ℕ) → CountsReads (Err result) n n }
+    ensures puts { (n : ℕ) → CountsPuts (Err result) n n }
+    ensures read { IfUnread result ⊥ }
+{
+    match fault {
+        CompileFault::TooManyArcs { t } => Refusal::Large { name, t },
+        CompileFault::Memory => Refusal::Memory,
+    }
+}
+
 /// Does what the words ask for. The report is put on `out`; a refusal is given back.
-fn perform<H: Shelf, K: Sink>(
+fn perform<R: Threads + Sync, H: Shelf, K: Sink>(
+    rt: &R,
     alloc: Global,
     words: &[String],
     shelf: &mut H,
     out: &mut K,
 ) -> Result<Status, Refusal>
     ensures reported { IfOk result IsReported }
+    ensures small { IfOk result (λ _. HasSmall (map string_bytes words.now) (H.held shelf.old)) }
     ensures done { IfOk result (λ status. HasReport (map string_bytes words.now) (H.held shelf.old) status (λ text. TakesAll text (K.taken out.old) (K.taken out.new))) }
     ensures refused { IfErr result (IsOwed (map string_bytes words.now) (H.held shelf.old) (K.taken out.old) (K.taken out.new)) }
     ensures reads { CountsReads result (H.read_faults shelf.old) (H.read_faults shelf.new) }
@@ -72,9 +89,9 @@ fn perform<H: Shelf, K: Sink>(
         Ok(instance) => instance,
         Err(fault) => return Err(input_refusal(command.into_name(), fault)),
     };
-    let report = match report_on(alloc, &command, &instance) {
+    let report = match report_on(rt, alloc, &command, &instance) {
         Ok(report) => report,
-        Err(Memory) => return Err(Refusal::Memory),
+        Err(fault) => return Err(graph_refusal(command.into_name(), fault)),
     };
     match put_lines(out, report.text.as_slice()) {
         Ok(()) => Ok(report.status),
@@ -121,7 +138,7 @@ fn refuse<E: Sink>(alloc: Global, err: &mut E, refusal: &Refusal) -> Status
 /// Does all that the program does: reads the words and the instance that they name from `shelf`, prints the report
 /// on `out`, and says a refusal in one line on `err`. The status is the exit status of the program.
 pub fn run<R: Threads + Sync, H: Shelf, K: Sink, E: Sink>(
-    _rt: &R,
+    rt: &R,
     alloc: Global,
     words: &[String],
     shelf: &mut H,
@@ -143,7 +160,8 @@ pub fn run<R: Threads + Sync, H: Shelf, K: Sink, E: Sink>(
     ensures asked { result ≡ Status.ReadFault → IsOkAnd (words_of (map string_bytes words.now)) (λ request. IfSome (H.asked shelf.old) (λ _. H.asked shelf.new ≡ Some (name_of request))) }
     ensures write_fault { result ≡ Status.WriteFault → Rose (K.faults out.old) (K.faults out.new) }
     ensures no_certificate { result ≡ Status.BadCertificate → ⊥ }
-    ensures no_graph { result ≡ Status.TooLarge → ⊥ }
+    ensures too_large { result ≡ Status.TooLarge → IsOkAnd (words_of (map string_bytes words.now)) (λ request. MakesGraphs request × IfSome (H.held shelf.old (name_of request)) (λ bytes. (t : ℕ) × IsLargeAt request t bytes)) }
+    ensures large_graphs { IfOk (words_of (map string_bytes words.now)) (λ request. IfSome (H.held shelf.old (name_of request)) (λ bytes. (t : ℕ) → MakesGraphs request → IsLargeAt request t bytes → (result ≡ Status.TooLarge) ⊎ ((result ≡ Status.ReadFault) ⊎ (result ≡ Status.NoMemory)))) }
 
     // Nothing else comes where the bytes spell an instance and nothing failed.
     ensures complete { HasInstance (map string_bytes words.now) (H.held shelf.old) → ¬ Rose (H.read_faults shelf.old) (H.read_faults shelf.new) → ¬ Rose (K.faults out.old) (K.faults out.new) → IsReported result ⊎ (result ≡ Status.NoMemory) }
@@ -157,6 +175,7 @@ pub fn run<R: Threads + Sync, H: Shelf, K: Sink, E: Sink>(
     ensures silent { IsReported result → (E.taken err.new ≡ E.taken err.old) × (E.faults err.new ≡ E.faults err.old) }
     ensures says_words { result ≡ Status.Usage → IsErrAnd (words_of (map string_bytes words.now)) (λ fault. Says (word_fault_line fault) (E.taken err.old) (E.taken err.new) (E.faults err.old) (E.faults err.new)) }
     ensures says_why { result ≡ Status.BadInstance → IsOkAnd (words_of (map string_bytes words.now)) (λ request. IfSome (H.held shelf.old (name_of request)) (λ bytes. SaysWhy request bytes (E.taken err.old) (E.taken err.new) (E.faults err.old) (E.faults err.new))) }
+    ensures says_large { result ≡ Status.TooLarge → IsOkAnd (words_of (map string_bytes words.now)) (λ request. IfSome (H.held shelf.old (name_of request)) (λ bytes. SaysLarge request bytes (E.taken err.old) (E.taken err.new) (E.faults err.old) (E.faults err.new))) }
     ensures says_unread { result ≡ Status.ReadFault → IsOkAnd (words_of (map string_bytes words.now)) (λ request. Says (unread_line (name_of request)) (E.taken err.old) (E.taken err.new) (E.faults err.old) (E.faults err.new)) }
     ensures says_unwritten { result ≡ Status.WriteFault → Says output_line (E.taken err.old) (E.taken err.new) (E.faults err.old) (E.faults err.new) }
     ensures says_memory { result ≡ Status.NoMemory → Says memory_line (E.taken err.old) (E.taken err.new) (E.faults err.old) (E.faults err.new) }
@@ -164,7 +183,7 @@ pub fn run<R: Threads + Sync, H: Shelf, K: Sink, E: Sink>(
     // Nothing is written on the shelf.
     ensures writes { KeepsWrites H.written H.created H.writing H.write_faults shelf.old shelf.new }
 {
-    match perform(alloc, words, shelf, out) {
+    match perform(rt, alloc, words, shelf, out) {
         Ok(status) => status,
         Err(refusal) => refuse(alloc, err, &refusal),
     }

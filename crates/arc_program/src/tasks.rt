@@ -1,27 +1,30 @@
 //! The work of each command.
 
-ghost use Rattle.std.specs.Prelude.{◌≡◌, ◌↔◌, IfOk, IfSome, IsSome};
+ghost use Rattle.std.specs.Prelude.{◌≡◌, ◌↔◌, ℕ, IfOk, IfErr, IfSome, IsSome};
 ghost use Rattle.arc_compile.specs.Levels.{AreLevelSizes};
+ghost use Rattle.arc_compile.specs.Graphs.{IsSmall, IsTooLarge};
+ghost use Rattle.arc_compile.specs.Compiled.{AreCompiled};
 ghost use Rattle.packing_laws.specs.Packings.{cost_of};
 ghost use Rattle.packing_laws.specs.Printed.{bins_of, IsTidy, IsWrittenPacking};
 ghost use Rattle.packing_laws.specs.Floors.{HasSingle, HasOneUnitEach};
 ghost use Rattle.arc_program.specs.Words.{request_of};
 ghost use Rattle.arc_program.specs.Answers.{IsAnswer, IsUnitPacking};
 ghost use Rattle.arc_program.specs.Reports.{answer_text};
-ghost use Rattle.arc_program.specs.Runs.{IsReport, IsLevelReport, IsReported, answer_status};
+ghost use Rattle.arc_program.specs.Runs.{IsReport, IsGraphReport, IsReported, MakesGraphs, answer_status};
 
 use crate::answers::Answer;
 use crate::reports::{compile_text, solve_text};
 use crate::status::Status;
 use crate::text::Text;
 use crate::words::Command;
-use arc_compile::level_size;
+use arc_compile::{CompileFault, Compiled, compile, level_size};
 use arc_num::Memory;
 use packing_laws::{
     Instance, Packing, cost, homeless_item, material_bound, material_is_floor, no_place_no_packing,
     packings_fit, tidy, units_apart,
 };
 use std::alloc::Global;
+use std::thread::Threads;
 
 /// A report, and the status of a run that prints it.
 #[derive(Debug, Drop)]
@@ -131,25 +134,66 @@ fn level_sizes(alloc: Global, instance: &Instance) -> Result<Vec<(u128, u128)>, 
     Ok(levels)
 }
 
-fn compile(alloc: Global, instance: &Instance) -> Result<Report, Memory>
+/// The report on the graphs of an instance that is compiled.
+fn graph_report(
+    alloc: Global,
+    instance: &Instance,
+    compiled: &Compiled,
+) -> Result<Report, Memory>
+    requires { AreCompiled instance.now compiled.now.graph compiled.now.sizes }
     ensures reported { IfOk result (λ report. IsReported report.status) }
-    ensures text { IfOk result (λ report. IsLevelReport instance.now report.status report.text) }
+    ensures text { IfOk result (λ report. IsGraphReport instance.now report.status report.text) }
 {
     let levels = level_sizes(alloc, instance)?;
-    let text = Text::new(compile_text(alloc, instance, levels.as_slice())?);
+    let text = Text::new(compile_text(alloc, instance, compiled, levels.as_slice())?);
     Ok(Report {
         text,
         status: Status::Done,
     })
 }
 
+fn compile_report<R: Threads + Sync>(
+    rt: &R,
+    alloc: Global,
+    instance: &Instance,
+) -> Result<Report, CompileFault>
+    ensures reported { IfOk result (λ report. IsReported report.status) }
+    ensures text { IfOk result (λ report. IsGraphReport instance.now report.status report.text) }
+    ensures small { IfOk result (λ _. IsSmall instance.now) }
+    ensures large { IfErr result (λ fault. (t : ℕ) → fault ≡ CompileFault.TooManyArcs t → IsTooLarge instance.now t) }
+{
+    let compiled = compile(rt, alloc, instance, 1)?;
+    match graph_report(alloc, instance, &compiled) {
+        Ok(report) => Ok(report),
+        Err(Memory) => Err(CompileFault::Memory),
+    }
+}
+
+fn solve_report(alloc: Global, instance: &Instance) -> Result<Report, CompileFault>
+    ensures reported { IfOk result (λ report. IsReported report.status) }
+    ensures text { IfOk result (λ report. (answer : Answer) × IsAnswer instance.now answer × (report.text ≡ answer_text answer) × (report.status ≡ answer_status answer)) }
+    ensures memory { IfErr result (λ fault. fault ≡ CompileFault.Memory) }
+{
+    match solve(alloc, instance) {
+        Ok(report) => Ok(report),
+        Err(Memory) => Err(CompileFault::Memory),
+    }
+}
+
 /// Does a command's own work.
-pub fn report_on(alloc: Global, command: &Command, instance: &Instance) -> Result<Report, Memory>
+pub fn report_on<R: Threads + Sync>(
+    rt: &R,
+    alloc: Global,
+    command: &Command,
+    instance: &Instance,
+) -> Result<Report, CompileFault>
     ensures reported { IfOk result (λ report. IsReported report.status) }
     ensures report { IfOk result (λ report. IsReport (request_of command.now) instance.now report.status report.text) }
+    ensures small { IfOk result (λ _. MakesGraphs (request_of command.now) → IsSmall instance.now) }
+    ensures large { IfErr result (λ fault. (t : ℕ) → fault ≡ CompileFault.TooManyArcs t → MakesGraphs (request_of command.now) × IsTooLarge instance.now t) }
 {
     match command {
-        Command::Compile { .. } => compile(alloc, instance),
-        Command::Solve { .. } => solve(alloc, instance),
+        Command::Compile { .. } => compile_report(rt, alloc, instance),
+        Command::Solve { .. } => solve_report(alloc, instance),
     }
 }
