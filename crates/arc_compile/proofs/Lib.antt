@@ -16,3 +16,7 @@ pub mod ExactGraphs
 pub mod NamedPieces
 pub mod NumberedPaths
 pub mod FaithfulGraphs
+pub mod CutPieces
+pub mod PaddedLevels
+pub mod PaddedGraphs
+pub mod OneSize

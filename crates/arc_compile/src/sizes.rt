@@ -2,21 +2,21 @@
 
 ghost use Rattle.std.specs.Prelude.{◌≡◌, ◌≤◌, IfOk, length};
 ghost use Rattle.packing_laws.specs.Instances.{IsAmong};
-ghost use Rattle.arc_compile.specs.Levels.{HasLevelSize, IsLevelSize};
+ghost use Rattle.arc_compile.specs.Levels.{IsLevelSize};
 
 use crate::pieces::pieces_of;
 use arc_num::Memory;
-use level_graph::level_counts;
+use level_graph::{cuts_keep_level_graphs, level_counts};
 use packing_laws::Instance;
 use std::alloc::Global;
 use weight_vec::Weights;
 
-/// The same in N places.
+/// The same, counted in N places.
 fn sized<const N: usize>(alloc: Global, instance: &Instance, t: u32) -> Result<(u128, u128), Memory>
     requires small { N ≤ 32 }
     requires in_range { IsAmong t (length instance.now.types) }
     requires wide { instance.now.dims ≤ N }
-    ensures { IfOk result (λ level. HasLevelSize N instance.now t level.0 level.1) }
+    ensures { IfOk result (λ level. IsLevelSize instance.now t level.0 level.1) }
 {
     let Some(bin_type) = instance.bin_type(t) else {
         unreachable!()
@@ -25,6 +25,7 @@ fn sized<const N: usize>(alloc: Global, instance: &Instance, t: u32) -> Result<(
         unreachable!()
     };
     instance.known();
+    cuts_keep_level_graphs();
     let pieces = pieces_of::<N>(alloc, instance, t)?;
     level_counts(alloc, pieces.as_slice(), &cap)
 }

@@ -5,6 +5,7 @@ use Rattle.packing_laws.specs.Instances.{type_at}
 use Rattle.label_graph.specs.declared.parts.Piece.{Piece}
 use Rattle.level_graph.specs.Levels.{IsPieceList, IsLevelCount}
 use Rattle.arc_compile.specs.Pieces.{padded}
+use Rattle.arc_compile.proofs.PaddedLevels.{level_size-cut}
 use Rattle.arc_compile.proofs.PieceLists.{is_piece_list}
 use Rattle.arc_compile.proofs.sizes.sized.Goals as goal
 
@@ -31,10 +32,10 @@ returns g c =
     let vector : c.as_slice.result.now ≡ (type_at I c.args.t).cap = c.as_slice.ensures ∙ ap (λ (b : BinType). b.cap) c.in-Some.ensures.value in
     let room : c.in-Some-pad_from.cap ≡ padded g.row.N (type_at I c.args.t).cap = c.in-Some-pad_from.ensures.1 ∙ ap (padded g.row.N) vector in
     IfOk-weaker c.level_counts.result _ _
-    (λ level counted. record {
+    (λ level counted. level_size-cut c.cuts_keep_level_graphs.ensures g.row.N I c.args.t c.known.ensures c.requires.in_range c.requires.wide c.requires.small level.0 level.1 (record {
       pieces = c.in_ok-pieces.pieces.items;
       are_pieces = c.in_ok-pieces.ensures.pieces;
       counted = subst (λ (ps : List (Piece g.row.N)). IsLevelCount ps (padded g.row.N (type_at I c.args.t).cap) level.0 level.1) c.as_slice-2.ensures.value
           (subst (λ (w : List ℕ). IsLevelCount c.as_slice-2.result.now w level.0 level.1) room counted);
-    })
+    }))
     c.level_counts.ensures
