@@ -6,3 +6,4 @@ pub mod OneImage
 pub mod Cutting
 pub mod Numbering
 pub mod MergedArcs
+pub mod WorkedGraph

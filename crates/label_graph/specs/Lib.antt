@@ -5,3 +5,4 @@ pub mod Heaviest
 pub mod Cuts
 pub mod ImageLaws
 pub mod Merges
+pub mod Rows
