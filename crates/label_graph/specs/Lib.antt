@@ -4,3 +4,5 @@ pub mod Images
 pub mod Heaviest
 pub mod Cuts
 pub mod ImageLaws
+pub mod Merges
+pub mod Rows

@@ -1,4 +1,11 @@
-use crate::{Graph, GraphArc, Mark, labels_bound_weights, nodes_lie_on_paths};
+ghost use Rattle.std.specs.Prelude.{◌≡◌, [], ◌∷◌, IfOk};
+ghost use Rattle.label_graph.specs.Rows.{two_pieces, two_nodes};
+
+use crate::{
+    Graph, GraphArc, GraphFault, Mark, Piece, cuts_keep_images, images_are_graphs, images_are_one,
+    images_keep_contents, known_weights, labels_bound_weights, nodes_lie_on_paths, quotient,
+    sort_distinct,
+};
 use std::alloc::{AllocError, Global};
 use std::test::Fail;
 use weight_vec::Weights;
@@ -13,10 +20,85 @@ fn one_node(alloc: Global) -> Result<Graph<1>, AllocError> {
     Ok(Graph::new(Vec::new(alloc), labels, Vec::new(alloc)))
 }
 
+fn weight(number: u32) -> Weights<1>
+    ensures { result ≡ number ∷ [] }
+{
+    match Weights::pad_from(&[number]) {
+        Some(weights) => weights,
+        None => unreachable!(),
+    }
+}
+
+fn piece(item: u32, number: u32) -> Piece<1>
+    ensures { result ≡ record { item = item; form = 1; weight = number ∷ []; copies = 1 } }
+{
+    Piece {
+        item,
+        form: 1,
+        weight: weight(number),
+        copies: 1,
+    }
+}
+
+fn arc(tail: u64, head: u64, mark: Mark) -> GraphArc
+    ensures { result ≡ record { tail = tail; head = head; mark = mark } }
+{
+    GraphArc { tail, head, mark }
+}
+
+// The main graph of two pieces that weigh 6 and 5, with the capacity 10.
+fn main_graph(alloc: Global) -> Result<Graph<1>, AllocError>
+    ensures { IfOk result (λ graph. graph ≡ two_pieces) }
+{
+    let pieces = vec![in alloc; piece(1, 6), piece(2, 5)]?;
+    let labels = vec![in alloc; weight(4), weight(5), weight(10)]?;
+    let arcs = vec![in alloc;
+        arc(1, 2, Mark::Loss),
+        arc(1, 3, Mark::Piece(1)),
+        arc(2, 3, Mark::Loss),
+        arc(2, 3, Mark::Piece(2)),
+    ]?;
+    Ok(Graph::new(pieces, labels, arcs))
+}
+
+// Labels that merge the first two nodes of that graph.
+fn merging_labels(alloc: Global) -> Result<Vec<Weights<1>>, AllocError>
+    ensures { IfOk result (λ labels. labels.items ≡ two_nodes) }
+{
+    let labels = vec![in alloc; weight(0), weight(0), weight(6)]?;
+    Ok(labels)
+}
+
+fn merged(alloc: Global, room: u32) -> Result<Graph<1>, GraphFault> {
+    let graph = main_graph(alloc)?;
+    let labels = merging_labels(alloc)?;
+    quotient(alloc, &graph, labels.as_slice(), room)
+}
+
+#[test]
+fn nodes_are_merged(rt: HostRuntime) -> Result<(), Fail> {
+    let image = merged(rt.alloc(), 3)?;
+    assert_eq!(rt; (image.labels().len(), image.arcs().len()), (2, 3));
+    match merged(rt.alloc(), 2) {
+        Err(fault) => assert_eq!(rt; fault, GraphFault::TooManyArcs),
+        Ok(_) => return Err("three arcs are too many".into()),
+    }
+    Ok(())
+}
+
+#[test]
+fn a_list_is_sorted(rt: HostRuntime) -> Result<(), Fail> {
+    let mut numbers = vec![in rt.alloc(); 3u32, 1, 3]?;
+    sort_distinct(&mut numbers);
+    assert!(rt; numbers.len() == 2 && numbers[0] == 1 && numbers[1] == 3);
+    Ok(())
+}
+
 #[test]
 fn a_graph_keeps_its_parts(rt: HostRuntime) -> Result<(), Fail> {
     let graph = one_node(rt.alloc())?;
     graph.known();
+    known_weights(graph.labels());
     assert_eq!(rt; graph.labels().len(), 1);
     assert!(rt; graph.pieces().is_empty() && graph.arcs().is_empty());
     needs_send(&graph);
@@ -43,4 +125,8 @@ fn marks_and_arcs_are_in_order(rt: HostRuntime) {
 fn laws_hold() {
     nodes_lie_on_paths();
     labels_bound_weights();
+    images_are_graphs();
+    images_keep_contents();
+    images_are_one();
+    cuts_keep_images();
 }
