@@ -4,3 +4,5 @@ pub mod ImageGraphs
 pub mod ImagePaths
 pub mod OneImage
 pub mod Cutting
+pub mod Numbering
+pub mod MergedArcs

@@ -14,16 +14,16 @@ module _ {X : Type 0} where
   member_at x xs y zero lt e = inl e
   member_at x xs y (suc k) lt e = inr (k, omega arith, e)
 
-  member_cases : (x : X) (xs : List X) (y : X) → Contains (x ∷ xs) y → (x ≡ y) ⊎ Contains xs y
+  pub member_cases : (x : X) (xs : List X) (y : X) → Contains (x ∷ xs) y → (x ≡ y) ⊎ Contains xs y
   member_cases x xs y h = member_at x xs y h.0 h.1 h.2
 
-  member_here : (x : X) (xs : List X) → Contains (x ∷ xs) x
+  pub member_here : (x : X) (xs : List X) → Contains (x ∷ xs) x
   member_here x xs = (0, omega arith, refl)
 
-  member_there : (x : X) (xs : List X) (y : X) → Contains xs y → Contains (x ∷ xs) y
+  pub member_there : (x : X) (xs : List X) (y : X) → Contains xs y → Contains (x ∷ xs) y
   member_there x xs y h = let lt : h.0 < length xs = h.1 in (suc h.0, omega arith, h.2)
 
-  no_member : (x : X) → Contains [] x → ⊥
+  pub no_member : (x : X) → Contains [] x → ⊥
   no_member x h = let lt : h.0 < 0 = h.1 in omega arith
 
 module _ {X : Type 0} (R : X → X → Type 0) (one_way : (x y : X) → R x y → R y x → ⊥) where

@@ -4,3 +4,4 @@ pub mod Images
 pub mod Heaviest
 pub mod Cuts
 pub mod ImageLaws
+pub mod Merges

@@ -4,6 +4,7 @@
 mod graph;
 mod images;
 mod laws;
+mod lists;
 mod parts;
 
 pub use graph::Graph;
@@ -12,6 +13,7 @@ pub use laws::{
     cuts_keep_images, images_are_graphs, images_are_one, images_keep_contents,
     labels_bound_weights, nodes_lie_on_paths,
 };
+pub use lists::{known_weights, sort_distinct};
 pub use parts::{GraphArc, GraphFault, Mark, Piece};
 
 #[cfg(test)]

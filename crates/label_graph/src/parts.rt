@@ -1,3 +1,5 @@
+use arc_num::Memory;
+use std::alloc::AllocError;
 use thiserror::Error;
 use weight_vec::Weights;
 
@@ -32,4 +34,26 @@ pub enum GraphFault {
     TooManyArcs,
     #[error("out of memory")]
     Memory,
+}
+
+impl From<Memory> for GraphFault {
+    ghost use Rattle.std.specs.Prelude.{◌≡◌};
+    ghost use Rattle.label_graph.specs.declared.parts.GraphFault.TheVariants.{Memory as NoMemory};
+
+    ghost from_gives = { λ _ e. e ≡ NoMemory };
+
+    fn from(_e: Memory) -> GraphFault {
+        GraphFault::Memory
+    }
+}
+
+impl From<AllocError> for GraphFault {
+    ghost use Rattle.std.specs.Prelude.{◌≡◌};
+    ghost use Rattle.label_graph.specs.declared.parts.GraphFault.TheVariants.{Memory as NoMemory};
+
+    ghost from_gives = { λ _ e. e ≡ NoMemory };
+
+    fn from(_e: AllocError) -> GraphFault {
+        GraphFault::Memory
+    }
 }

@@ -1,0 +1,29 @@
+//! What is done with lists of any graph.
+
+ghost use Rattle.std.specs.Prelude.{◌≡◌, ◌↔◌, ◌≤◌, true, All, Contains, length, vec_len};
+ghost use Rattle.std.specs.List.Sorted.{IsStrictlySortedBy};
+ghost use Rattle.weight_vec.specs.Weight.{IsInRange};
+
+use weight_vec::Weights;
+
+/// Sorts a list, and keeps one of each element.
+pub fn sort_distinct<T: Ord + Drop>(all: &mut Vec<T>)
+    requires { (x y : T) → T.eq x y ≡ true → x ≡ y }
+    ensures sorted { IsStrictlySortedBy T.cmp all.new.items }
+    ensures count { vec_len all.new ≤ vec_len all.old }
+    ensures same { (x : T) → Contains all.new.items x ↔ Contains all.old.items x }
+{
+    all.sort_unstable();
+    all.dedup();
+}
+
+/// A call that costs nothing: how many numbers each weight has, and their range.
+pub fn known_weights<const N: usize>(weights: &[Weights<N>])
+    requires small { N ≤ 32 }
+    ensures sized { All (λ l. length l ≡ N) weights.now }
+    ensures ranged { All (λ l. IsInRange l) weights.now }
+{
+    for weight in weights {
+        weight.known();
+    }
+}
