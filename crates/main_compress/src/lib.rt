@@ -9,3 +9,6 @@ pub use laws::{
     main_paths_fit,
 };
 pub use mains::compress_main;
+
+#[cfg(test)]
+mod tests;
