@@ -21,10 +21,7 @@ pub fn compress_main<const N: usize>(
     ensures roomy { IfOk result (λ main. length main.arcs ≤ room) }
     ensures full { IfErr result (λ fault. fault ≡ GraphFault.TooManyArcs → (main : GraphValue N) × IsMainGraph cap.now graph.now main × (room < length main.arcs)) }
 {
-    let labels = match target_labels(alloc, graph, cap) {
-        Ok(labels) => labels,
-        Err(_) => return Err(GraphFault::Memory),
-    };
+    let labels = target_labels(alloc, graph, cap)?;
     graph.known();
     quotient(alloc, graph, labels.as_slice(), room)
 }

@@ -5,5 +5,5 @@ use Rattle.main_compress.proofs.mains.compress_main.Goals as goal
 
 pub quotient-requires : goal.quotient-requires
 quotient-requires g c =
-    let is = target-labelling c.args.cap.now c.args.graph.now c.known.ensures c.in-Ok.labels.items c.in-Ok.ensures in
+    let is = target-labelling c.args.cap.now c.args.graph.now c.known.ensures c.in_ok-labels.labels.items c.in_ok-labels.ensures in
     (search rules, (search rules, (c.requires.small, subst (λ (ls : List (List ℕ)). IsLabelling {N = g.row.N} c.args.graph.now ls) (sym c.as_slice.ensures.value) is)))
