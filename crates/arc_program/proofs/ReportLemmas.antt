@@ -1,25 +1,32 @@
 -- Reports, line by line.
 use Rattle.std.proofs.Common.{◌≡◌, ℕ, ◌+◌, ◌<◌, List, [], ◌∷◌, ◌++◌, length, take, get_or, ap, sym, ◌∙◌, arith, append_assoc, append-nil}
 use Rattle.std.proofs.lemmas.List.{take_more, length-take-le}
-use Rattle.arc_program.specs.Reports.{level_line, level_lines}
+use Rattle.arc_compile.specs.declared.compiled.TypeSize.{TypeSize}
+use Rattle.arc_program.specs.Reports.{type_line, type_lines}
 
--- the lines of more level graphs come behind
-level_lines-append : (t : ℕ) (xs ys : List (ℕ × ℕ)) → level_lines t (xs ++ ys) ≡ level_lines t xs ++ level_lines (t + length xs) ys
-level_lines-append t [] ys = let e : t ≡ t + 0 = omega arith in ap (λ (n : ℕ). level_lines n ys) e
-level_lines-append t (x ∷ xs) ys =
+-- the lines of more types come behind
+type_lines-append : (t : ℕ) (xs ys : List (ℕ × ℕ)) (ss us : List TypeSize) → length ss ≡ length xs → type_lines t (xs ++ ys) (ss ++ us) ≡ type_lines t xs ss ++ type_lines (t + length xs) ys us
+type_lines-append t [] ys [] us same = let e : t ≡ t + 0 = omega arith in ap (λ (n : ℕ). type_lines n ys us) e
+type_lines-append t [] ys (s ∷ ss) us same = absurd (omega (arith, same))
+type_lines-append t (x ∷ xs) ys [] us same = absurd (omega (arith, same))
+type_lines-append t (x ∷ xs) ys (s ∷ ss) us same =
     let e : t + 1 + length xs ≡ t + length (x ∷ xs) = omega arith in
-    ap (λ (zs : List ℕ). level_line t x ++ zs) (level_lines-append (t + 1) xs ys ∙ ap (λ (n : ℕ). level_lines (t + 1) xs ++ level_lines n ys) e)
-    ∙ sym (append_assoc (level_line t x) (level_lines (t + 1) xs) (level_lines (t + length (x ∷ xs)) ys))
+    ap (λ (zs : List ℕ). type_line t x s ++ zs) (type_lines-append (t + 1) xs ys ss us (omega (arith, same)) ∙ ap (λ (n : ℕ). type_lines (t + 1) xs ss ++ type_lines n ys us) e)
+    ∙ sym (append_assoc (type_line t x s) (type_lines (t + 1) xs ss) (type_lines (t + length (x ∷ xs)) ys us))
 
--- the lines of one level graph more
-pub level_lines-more : (levels : List (ℕ × ℕ)) (t : ℕ) (level : ℕ × ℕ) (before : List ℕ) → t < length levels → level ≡ get_or levels t level → (before ++ level_lines 1 (take t levels)) ++ level_line (t + 1) level ≡ before ++ level_lines 1 (take (t + 1) levels)
-level_lines-more levels t level before lt e =
-    let n : 1 + length (take t levels) ≡ t + 1 = omega (arith, length-take-le t levels (omega arith)) in
+-- the line of one type more
+pub type_lines-more : (levels : List (ℕ × ℕ)) (sizes : List TypeSize) (t : ℕ) (level : ℕ × ℕ) (size : TypeSize) (before : List ℕ) → length sizes ≡ length levels → t < length levels → level ≡ get_or levels t level → size ≡ get_or sizes t size → (before ++ type_lines 1 (take t levels) (take t sizes)) ++ type_line (t + 1) level size ≡ before ++ type_lines 1 (take (t + 1) levels) (take (t + 1) sizes)
+type_lines-more levels sizes t level size before same lt e f =
+    let sized : length (take t levels) ≡ t = length-take-le t levels (omega arith) in
+    let many : length (take t sizes) ≡ t = length-take-le t sizes (omega (arith, same)) in
+    let n : 1 + length (take t levels) ≡ t + 1 = omega (arith, sized) in
     let more : take (t + 1) levels ≡ take t levels ++ level ∷ [] = take_more levels t level lt ∙ ap (λ (x : ℕ × ℕ). take t levels ++ x ∷ []) (sym e) in
-    let last : level_lines (t + 1) (level ∷ []) ≡ level_line (t + 1) level = append-nil (level_line (t + 1) level) in
-    append_assoc before (level_lines 1 (take t levels)) (level_line (t + 1) level)
+    let next : take (t + 1) sizes ≡ take t sizes ++ size ∷ [] = take_more sizes t size (omega (arith, same)) ∙ ap (λ (x : TypeSize). take t sizes ++ x ∷ []) (sym f) in
+    let last : type_lines (t + 1) (level ∷ []) (size ∷ []) ≡ type_line (t + 1) level size = append-nil (type_line (t + 1) level size) in
+    append_assoc before (type_lines 1 (take t levels) (take t sizes)) (type_line (t + 1) level size)
     ∙ ap (λ (zs : List ℕ). before ++ zs)
-    (ap (λ (zs : List ℕ). level_lines 1 (take t levels) ++ zs) (sym last)
-    ∙ (ap (λ (k : ℕ). level_lines 1 (take t levels) ++ level_lines k (level ∷ [])) (sym n)
-    ∙ (sym (level_lines-append 1 (take t levels) (level ∷ []))
-    ∙ ap (level_lines 1) (sym more))))
+    (ap (λ (zs : List ℕ). type_lines 1 (take t levels) (take t sizes) ++ zs) (sym last)
+    ∙ (ap (λ (k : ℕ). type_lines 1 (take t levels) (take t sizes) ++ type_lines k (level ∷ []) (size ∷ [])) (sym n)
+    ∙ (sym (type_lines-append 1 (take t levels) (level ∷ []) (take t sizes) (size ∷ []) (many ∙ sym sized))
+    ∙ (ap (λ (xs : List (ℕ × ℕ)). type_lines 1 xs (take t sizes ++ size ∷ [])) (sym more)
+    ∙ ap (λ (ss : List TypeSize). type_lines 1 (take (t + 1) levels) ss) (sym next)))))

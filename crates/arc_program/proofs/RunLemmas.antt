@@ -4,7 +4,7 @@ use Rattle.arc_io.specs.Bytes.{Told, Files}
 use Rattle.packing_laws.specs.Instances.{InstanceValue}
 use Rattle.packing_laws.specs.declared.fault.ReadFault.{ReadFault}
 use Rattle.arc_program.specs.declared.refusals.Refusal.{Refusal}
-use Rattle.arc_program.specs.declared.refusals.Refusal.TheVariants.{Words, Unread, Long, BadPlace, Unwritten, Memory}
+use Rattle.arc_program.specs.declared.refusals.Refusal.TheVariants.{Words, Unread, Long, BadPlace, Large, Unwritten, Memory}
 use Rattle.arc_program.specs.declared.status.Status.{Status}
 use Rattle.arc_program.specs.declared.status.Status.TheVariants.{Done, Bracketed, Usage, BadInstance, BadCertificate, ReadFault as ReadFaults, WriteFault, NoMemory, TooLarge}
 use Rattle.arc_program.specs.declared.words.WordFault.{WordFault}
@@ -57,6 +57,10 @@ why_is_said words held t0 t1 (Words fault) status e0 e1 f0 f1 o (inl s) e = absu
 why_is_said words held t0 t1 (Unread name) status e0 e1 f0 f1 o (inl s) e = absurd (clash status s.0 e)
   where
     clash : (t : Status) → t ≡ ReadFaults → t ≡ BadInstance → ⊥
+    clash t a b = cc
+why_is_said words held t0 t1 (Large name t) status e0 e1 f0 f1 o (inl s) e = absurd (clash status s.0 e)
+  where
+    clash : (t : Status) → t ≡ TooLarge → t ≡ BadInstance → ⊥
     clash t a b = cc
 why_is_said words held t0 t1 Unwritten status e0 e1 f0 f1 o (inl s) e = absurd (clash status s.0 e)
   where

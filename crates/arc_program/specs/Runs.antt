@@ -90,6 +90,11 @@ IsReport (Solves name mvp) I status text = (answer : Answer) × IsAnswer I answe
 abbrev pub HasReport : List Word → Files → Status → (List ℕ → Type 0) → Type 0
 HasReport words held status P = IsOkAnd (words_of words) (λ request. IfSome (held (name_of request)) (λ bytes. (I : InstanceValue) × IsAccepted request bytes I × (text : List ℕ) × IsReport request I status text × P text))
 
+-- of the bytes under the name that is asked about, where they are told: they spell an instance, which is small where
+-- graphs are made of it
+abbrev pub HasSmall : List Word → Files → Type 0
+HasSmall words held = IsOkAnd (words_of words) (λ request. IfSome (held (name_of request)) (λ bytes. (I : InstanceValue) × IsAccepted request bytes I × (MakesGraphs request → IsSmall I)))
+
 -- the refusal is that of the words or the bytes that came in, and this is what `out` has taken before and after
 abbrev pub IsOwed : List Word → Files → Told → Told → Refusal → Type 0
 IsOwed words held before after (Words fault) = (words_of words ≡ Err fault) × (after ≡ before)

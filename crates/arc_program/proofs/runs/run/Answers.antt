@@ -18,8 +18,8 @@ returns-in-Ok-clause-write_fault g c = not_reported c.in-Ok.status WriteFault c.
 pub returns-in-Ok-clause-no_certificate : goal.returns-in-Ok-clause-no_certificate
 returns-in-Ok-clause-no_certificate g c = not_reported c.in-Ok.status BadCertificate c.in-Ok.ensures.reported (λ n. n)
 
-pub returns-in-Ok-clause-no_graph : goal.returns-in-Ok-clause-no_graph
-returns-in-Ok-clause-no_graph g c = not_reported c.in-Ok.status TooLarge c.in-Ok.ensures.reported (λ n. n)
+pub returns-in-Ok-clause-too_large : goal.returns-in-Ok-clause-too_large
+returns-in-Ok-clause-too_large g c = not_reported c.in-Ok.status TooLarge c.in-Ok.ensures.reported (λ n. n)
 
 pub returns-in-Ok-clause-says_words : goal.returns-in-Ok-clause-says_words
 returns-in-Ok-clause-says_words g c = not_reported c.in-Ok.status Usage c.in-Ok.ensures.reported (λ n. n)
@@ -38,3 +38,18 @@ returns-in-Ok-clause-early g c = reported_not_early c.in-Ok.status c.in-Ok.ensur
 
 pub returns-in-Err-clause-says_why : goal.returns-in-Err-clause-says_why
 returns-in-Err-clause-says_why g c = why_is_said (map string_bytes c.args.words.now) (g.H.Shelf.held c.args.shelf.now) (g.K.Sink.taken c.args.out.now) (g.K.Sink.taken c.perform.new.out) c.in-Err.refusal c.refuse.result _ _ _ _ c.in-Err.ensures.refused c.refuse.ensures.said
+
+pub returns-in-Ok-clause-says_large : goal.returns-in-Ok-clause-says_large
+returns-in-Ok-clause-says_large g c = not_reported c.in-Ok.status TooLarge c.in-Ok.ensures.reported (λ n. n)
+
+pub returns-in-Ok-clause-large_graphs : goal.returns-in-Ok-clause-large_graphs
+returns-in-Ok-clause-large_graphs g c = ?
+
+pub returns-in-Err-clause-large_graphs : goal.returns-in-Err-clause-large_graphs
+returns-in-Err-clause-large_graphs g c = ?
+
+pub returns-in-Err-clause-complete : goal.returns-in-Err-clause-complete
+returns-in-Err-clause-complete g c = ?
+
+pub returns-in-Err-clause-says_large : goal.returns-in-Err-clause-says_large
+returns-in-Err-clause-says_large g c = ?
