@@ -114,7 +114,8 @@ fn merged_nodes<const N: usize>(
     requires there { All (λ l. Contains numbers.now.keys l) labels.now }
     ensures { IfOk result (λ nodes. AreNodes labels.now numbers.now.keys nodes.items) }
 {
-    let _few = numbers.len();
+    // The answer is below 2^63.
+    let _count = numbers.len();
     let mut nodes = Vec::with_capacity(alloc, labels.len())?;
     for label in labels {
         nodes.push(node_of(numbers, label))?;

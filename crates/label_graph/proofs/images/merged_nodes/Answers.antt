@@ -6,7 +6,7 @@ use Rattle.label_graph.proofs.images.merged_nodes.Goals as goal
 
 pub node_of-requires : goal.node_of-requires
 node_of-requires g c =
-    let few : length c.args.numbers.now.keys < 2 ^ 63 = omega (arith, c.len-few.ensures.small, c.len-few.ensures.len) in
+    let few : length c.args.numbers.now.keys < 2 ^ 63 = omega (arith, c.len-count.ensures.small, c.len-count.ensures.len) in
     let there : Contains c.args.numbers.now.keys c.label-item.result = rw c.label-item.is (c.requires.there c.loop-label.label-index c.label-item.result c.loop-label-test.true) in
     (search rules, (c.requires.small, (few, there)))
 
