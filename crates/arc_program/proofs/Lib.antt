@@ -3,3 +3,4 @@ pub mod ScanSteps
 pub mod PrintLemmas
 pub mod RunLemmas
 pub mod ReportLemmas
+pub mod LargeRuns

@@ -78,6 +78,7 @@ pub record IsGraphReport (I : InstanceValue) (status : Status) (text : List ℕ)
   pub sizes : List TypeSize
   pub are_levels : AreLevelSizes I levels
   pub are_compiled : AreCompiled I graph sizes
+  pub small : IsSmall I
   pub text_is : text ≡ graphs_text I levels sizes (length (numbered graph))
   pub status_is : status ≡ Done
 
@@ -89,11 +90,6 @@ IsReport (Solves name mvp) I status text = (answer : Answer) × IsAnswer I answe
 -- of the bytes under the name that is asked about, where they are told: they spell an instance, and P holds of a report on it
 abbrev pub HasReport : List Word → Files → Status → (List ℕ → Type 0) → Type 0
 HasReport words held status P = IsOkAnd (words_of words) (λ request. IfSome (held (name_of request)) (λ bytes. (I : InstanceValue) × IsAccepted request bytes I × (text : List ℕ) × IsReport request I status text × P text))
-
--- of the bytes under the name that is asked about, where they are told: they spell an instance, which is small where
--- graphs are made of it
-abbrev pub HasSmall : List Word → Files → Type 0
-HasSmall words held = IsOkAnd (words_of words) (λ request. IfSome (held (name_of request)) (λ bytes. (I : InstanceValue) × IsAccepted request bytes I × (MakesGraphs request → IsSmall I)))
 
 -- the refusal is that of the words or the bytes that came in, and this is what `out` has taken before and after
 abbrev pub IsOwed : List Word → Files → Told → Told → Refusal → Type 0
@@ -185,3 +181,7 @@ IsEarly ReadFaults = Unit {0}
 IsEarly WriteFault = ⊥
 IsEarly NoMemory = ⊥
 IsEarly TooLarge = Unit {0}
+
+-- no bytes spell an instance that is small and one that is too large
+abbrev pub SmallIsNotLarge : Type 0
+SmallIsNotLarge = (request : Request) (bytes : List ℕ) (I : InstanceValue) (t : ℕ) → IsAccepted request bytes I → IsSmall I → IsLargeAt request t bytes → ⊥

@@ -8,7 +8,7 @@ ghost use Rattle.arc_program.specs.Loading.{KeepsWrites};
 ghost use Rattle.arc_program.specs.Printing.{TakesAll, TakesPrefix};
 ghost use Rattle.arc_program.specs.Refusals.{memory_line, output_line, unread_line, word_fault_line};
 ghost use Rattle.arc_program.specs.Inputs.{IsInput, CountsInput};
-ghost use Rattle.arc_program.specs.Runs.{name_of, HasInstance, HasReport, HasSmall, IsAccepted, IsLargeAt, IsOwed, IsRefused, IsReported, IsEarly, IsSaid, MakesGraphs, CountsReads, CountsPuts, IfUnread, Says, SaysWhy, SaysLarge};
+ghost use Rattle.arc_program.specs.Runs.{name_of, HasInstance, HasReport, IsAccepted, IsLargeAt, IsOwed, IsRefused, IsReported, IsEarly, IsSaid, MakesGraphs, CountsReads, CountsPuts, IfUnread, Says, SaysWhy, SaysLarge, SmallIsNotLarge};
 ghost use Rattle.packing_laws.specs.Instances.{InstanceValue};
 ghost use Rattle.arc_compile.specs.Graphs.{IsTooLarge};
 
@@ -18,10 +18,19 @@ use crate::refusals::{Refusal, refusal_text};
 use crate::status::Status;
 use crate::tasks::report_on;
 use crate::words::{WordFault, read_words};
-use arc_compile::CompileFault;
+use arc_compile::{CompileFault, sizes_are_one};
 use arc_io::{IoFault, Shelf, Sink};
 use std::alloc::Global;
 use std::thread::Threads;
+
+/// A call that costs nothing: no bytes spell an instance that is small and one that is too large.
+fn small_is_not_large()
+    ensures { SmallIsNotLarge }
+{
+    sizes_are_one();
+    vbp_reader::a_text_reads_as_its_row();
+    mvp_reader::a_text_reads_as_its_row();
+}
 
 /// The refusal that a fault of the words is.
 fn words_refusal(fault: WordFault) -> Refusal
@@ -73,7 +82,6 @@ fn perform<R: Threads + Sync, H: Shelf, K: Sink>(
     out: &mut K,
 ) -> Result<Status, Refusal>
     ensures reported { IfOk result IsReported }
-    ensures small { IfOk result (λ _. HasSmall (map string_bytes words.now) (H.held shelf.old)) }
     ensures done { IfOk result (λ status. HasReport (map string_bytes words.now) (H.held shelf.old) status (λ text. TakesAll text (K.taken out.old) (K.taken out.new))) }
     ensures refused { IfErr result (IsOwed (map string_bytes words.now) (H.held shelf.old) (K.taken out.old) (K.taken out.new)) }
     ensures reads { CountsReads result (H.read_faults shelf.old) (H.read_faults shelf.new) }
@@ -183,6 +191,7 @@ pub fn run<R: Threads + Sync, H: Shelf, K: Sink, E: Sink>(
     // Nothing is written on the shelf.
     ensures writes { KeepsWrites H.written H.created H.writing H.write_faults shelf.old shelf.new }
 {
+    small_is_not_large();
     match perform(rt, alloc, words, shelf, out) {
         Ok(status) => status,
         Err(refusal) => refuse(alloc, err, &refusal),

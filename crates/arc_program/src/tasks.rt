@@ -140,7 +140,8 @@ fn graph_report(
     instance: &Instance,
     compiled: &Compiled,
 ) -> Result<Report, Memory>
-    requires { AreCompiled instance.now compiled.now.graph compiled.now.sizes }
+    requires compiled { AreCompiled instance.now compiled.now.graph compiled.now.sizes }
+    requires small { IsSmall instance.now }
     ensures reported { IfOk result (λ report. IsReported report.status) }
     ensures text { IfOk result (λ report. IsGraphReport instance.now report.status report.text) }
 {
@@ -159,7 +160,6 @@ fn compile_report<R: Threads + Sync>(
 ) -> Result<Report, CompileFault>
     ensures reported { IfOk result (λ report. IsReported report.status) }
     ensures text { IfOk result (λ report. IsGraphReport instance.now report.status report.text) }
-    ensures small { IfOk result (λ _. IsSmall instance.now) }
     ensures large { IfErr result (λ fault. (t : ℕ) → fault ≡ CompileFault.TooManyArcs t → IsTooLarge instance.now t) }
 {
     let compiled = compile(rt, alloc, instance, 1)?;
@@ -189,7 +189,6 @@ pub fn report_on<R: Threads + Sync>(
 ) -> Result<Report, CompileFault>
     ensures reported { IfOk result (λ report. IsReported report.status) }
     ensures report { IfOk result (λ report. IsReport (request_of command.now) instance.now report.status report.text) }
-    ensures small { IfOk result (λ _. MakesGraphs (request_of command.now) → IsSmall instance.now) }
     ensures large { IfErr result (λ fault. (t : ℕ) → fault ≡ CompileFault.TooManyArcs t → MakesGraphs (request_of command.now) × IsTooLarge instance.now t) }
 {
     match command {

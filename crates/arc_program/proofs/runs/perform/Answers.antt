@@ -24,3 +24,6 @@ pub returns-clause-refused : goal.returns-clause-refused
 returns-clause-refused g c =
     let P = λ (text : List ℕ). TakesPrefix text (g.K.Sink.taken c.args.out.now) (g.K.Sink.taken c.put_lines.new.out) in
     inr (c.in-Ok-report_on.report.status, has_report (map string_bytes c.args.words.now) (g.H.Shelf.held c.args.shelf.now) (request_of c.in-Ok.command) c.in-Ok-load_instance.instance c.in-Ok-report_on.report.status c.in-Ok-report_on.report.text P c.in-Ok.ensures c.in-Ok-load_instance.ensures.input c.in-Ok-report_on.ensures.report (subst P c.as_slice.ensures c.in-Err-Memory.ensures.text))
+
+pub returns-in-Err-report_on-clause-refused : goal.returns-in-Err-report_on-clause-refused
+returns-in-Err-report_on-clause-refused g c = c.graph_refusal.ensures.owed (map string_bytes c.args.words.now) (g.H.Shelf.held c.args.shelf.now) (g.K.Sink.taken c.args.out.now) (request_of c.in-Ok.command) c.in-Ok-load_instance.instance c.in-Ok.ensures c.into_name-in-Err-report_on.ensures c.in-Ok-load_instance.ensures.input c.in-Err-report_on.ensures.large
