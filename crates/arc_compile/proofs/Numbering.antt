@@ -59,18 +59,18 @@ before_from_cmp a b apart late =
       then_cases b.head a.head items
           (λ lt less. not_less heads (ap is_lt (sym is) ∙ late) less)
           (λ head on. inr (
-        sym head,
-        then_cases b.item a.item forms
-            (λ lt less. not_less items (ap is_lt (sym (is ∙ on)) ∙ late) less)
-            (λ item from. inr (
-          sym item,
-          by_ranked (b.form < a.form) (b.form ≡ a.form) (a.form < b.form) forms (ranked b.form a.form forms refl)
-              (λ less lt. not_less forms (ap is_lt (sym (is ∙ (on ∙ from))) ∙ late) less)
-              (λ same form. absurd (apart (λ k. record { tail = sym tail k; head = sym head k; item = sym item k; form = sym form k })))
-              (λ more gt. gt),
-        ))
-            (λ gt. inl gt),
-      ))
+            sym head,
+            then_cases b.item a.item forms
+                (λ lt less. not_less items (ap is_lt (sym (is ∙ on)) ∙ late) less)
+                (λ item from. inr (
+                  sym item,
+                  by_ranked (b.form < a.form) (b.form ≡ a.form) (a.form < b.form) forms (ranked b.form a.form forms refl)
+                      (λ less lt. not_less forms (ap is_lt (sym (is ∙ (on ∙ from))) ∙ late) less)
+                      (λ same form. absurd (apart (λ k. record { tail = sym tail k; head = sym head k; item = sym item k; form = sym form k })))
+                      (λ more gt. gt),
+                ))
+                (λ gt. inl gt),
+          ))
           (λ gt. inl gt),
     ))
     (λ gt. inl gt)
@@ -96,21 +96,20 @@ cmp_exact a b equal =
   where
     late_tail : b.tail < a.tail → ⊥
     late_tail gt = by_ranked (a.tail < b.tail) (a.tail ≡ b.tail) (b.tail < a.tail) (nat_cmp a.tail b.tail) (ranked a.tail b.tail (nat_cmp a.tail b.tail) refl)
-      (λ is lt. omega arith) (λ is e. omega arith)
-      (λ is more. let bad : Greater ≡ Equal = sym (ap (λ (o : Ordering). ordering_then o (ordering_then (nat_cmp a.head b.head) (ordering_then (nat_cmp a.item b.item) (nat_cmp a.form b.form)))) is) ∙ equal in cc)
+        (λ is lt. omega arith) (λ is e. omega arith)
+        (λ is more. let bad : Greater ≡ Equal = sym (ap (λ (o : Ordering). ordering_then o (ordering_then (nat_cmp a.head b.head) (ordering_then (nat_cmp a.item b.item) (nat_cmp a.form b.form)))) is) ∙ equal in cc)
 
     late_head : b.head < a.head → arc_cmp a b ≡ ordering_then (nat_cmp a.head b.head) (ordering_then (nat_cmp a.item b.item) (nat_cmp a.form b.form)) → ⊥
     late_head gt at = by_ranked (a.head < b.head) (a.head ≡ b.head) (b.head < a.head) (nat_cmp a.head b.head) (ranked a.head b.head (nat_cmp a.head b.head) refl)
-      (λ is lt. omega arith) (λ is e. omega arith)
-      (λ is more. let bad : Greater ≡ Equal = sym (ap (λ (o : Ordering). ordering_then o (ordering_then (nat_cmp a.item b.item) (nat_cmp a.form b.form))) is) ∙ (sym at ∙ equal) in cc)
+        (λ is lt. omega arith) (λ is e. omega arith)
+        (λ is more. let bad : Greater ≡ Equal = sym (ap (λ (o : Ordering). ordering_then o (ordering_then (nat_cmp a.item b.item) (nat_cmp a.form b.form))) is) ∙ (sym at ∙ equal) in cc)
 
     late_item : b.item < a.item → arc_cmp a b ≡ ordering_then (nat_cmp a.head b.head) (ordering_then (nat_cmp a.item b.item) (nat_cmp a.form b.form)) → ordering_then (nat_cmp a.head b.head) (ordering_then (nat_cmp a.item b.item) (nat_cmp a.form b.form)) ≡ ordering_then (nat_cmp a.item b.item) (nat_cmp a.form b.form) → ⊥
     late_item gt at on = by_ranked (a.item < b.item) (a.item ≡ b.item) (b.item < a.item) (nat_cmp a.item b.item) (ranked a.item b.item (nat_cmp a.item b.item) refl)
-      (λ is lt. omega arith) (λ is e. omega arith)
-      (λ is more. let bad : Greater ≡ Equal = sym (ap (λ (o : Ordering). ordering_then o (nat_cmp a.form b.form)) is) ∙ (sym on ∙ (sym at ∙ equal)) in cc)
+        (λ is lt. omega arith) (λ is e. omega arith)
+        (λ is more. let bad : Greater ≡ Equal = sym (ap (λ (o : Ordering). ordering_then o (nat_cmp a.form b.form)) is) ∙ (sym on ∙ (sym at ∙ equal)) in cc)
 
 module _ {N : ℕ} (g : GraphValue N) (is : IsGraph N g) (named : AreNamed g.pieces) where
-
   item_at : (p : ℕ) (d : Piece N) → IsKnown g.pieces (Carries p) → marked_item g.pieces (Carries p) ≡ (get_or g.pieces (p - 1) d).item
   item_at p d known = get_or-map (λ (q : Piece N). q.item) g.pieces (p - 1) d 0 (omega (arith, known.0, known.1))
 

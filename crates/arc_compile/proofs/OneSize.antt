@@ -13,7 +13,7 @@ use Rattle.label_graph.specs.Graph.{GraphValue}
 use Rattle.level_graph.specs.declared.states.State.{State}
 use Rattle.level_graph.specs.Levels.{IsLevelGraph}
 use Rattle.level_graph.specs.LevelLaws.{LevelsAreOne}
-use Rattle.level_graph.proofs.Uniqueness.{one_list}
+use Rattle.label_graph.proofs.OneImage.{same-list}
 use Rattle.main_compress.specs.MainGraphs.{IsMainGraph}
 use Rattle.main_compress.specs.MainLaws.{MainGraphsAreOne}
 use Rattle.arc_compile.specs.CompileLaws.{SizesAreOne}
@@ -35,7 +35,7 @@ module _ {N : ℕ} where
   pub one_pieces : (I : InstanceValue) (t : ℕ) (pieces others : List (Piece N)) → ArePieces I t pieces → ArePieces I t others → pieces ≡ others
   one_pieces I t pieces others first second =
       let up : (ps : List (Piece N)) → ArePieces I t ps → AllPairs (λ p q. piece_cmp p q ≡ Less) ps = λ ps are i j d lt in_range. Less-from_sorted piece_cmp ps i j d are.order lt in_range in
-      one_list (λ p q. piece_cmp p q ≡ Less) never_both pieces others (up pieces first) (up others second)
+      same-list (λ p q. piece_cmp p q ≡ Less) never_both pieces others (up pieces first) (up others second)
       (λ q m. second.all q (All-contains (IsPiece I t) pieces q first.each m))
       (λ q m. first.all q (All-contains (IsPiece I t) others q second.each m))
 

@@ -23,7 +23,7 @@ slice_cmp-same (x ∷ xs) = rw (nat_cmp-same x, slice_cmp-same xs) refl
 
 module _ {N : ℕ} (I : InstanceValue) (t : ℕ) where
   -- two pieces of one form are not in order
-  apart : (p q : Piece N) → IsPiece I t p → IsPiece I t q → piece_cmp p q ≡ Less → (p.item ≡ q.item) × (p.form ≡ q.form) → ⊥
+  pub apart : (p q : Piece N) → IsPiece I t p → IsPiece I t q → piece_cmp p q ≡ Less → (p.item ≡ q.item) × (p.form ≡ q.form) → ⊥
   apart p q hp hq less same =
       let weight : p.weight ≡ q.weight = hp.weighs ∙ (ap (λ (i : ℕ). padded N (form_at I i p.form)) same.0 ∙ (ap (λ (f : ℕ). padded N (form_at I q.item f)) same.1 ∙ sym hq.weighs)) in
       let by_weight : slice_cmp nat_cmp q.weight p.weight ≡ Equal = ap (slice_cmp nat_cmp q.weight) weight ∙ slice_cmp-same q.weight in

@@ -16,6 +16,7 @@ use Rattle.packing_laws.specs.Instances.{InstanceValue, IsInstance, IsAmong, typ
 use Rattle.label_graph.specs.declared.parts.Piece.{Piece}
 use Rattle.level_graph.specs.Levels.{IsPieceList}
 use Rattle.level_graph.proofs.StateOrder.{nat_same}
+use Rattle.arc_compile.proofs.PieceLists.{apart}
 use Rattle.arc_compile.specs.Pieces.{padded, IsPiece, ArePieces, piece_cmp}
 use Rattle.arc_compile.proofs.PieceLists.{is_piece_list}
 
@@ -36,10 +37,6 @@ numbered-le number n xs x below apart =
     ) in
     let few : length (map number xs) ≤ n = length-le_from_distinct_below (map number xs) n distinct (λ q found. All-contains (λ (k : ℕ). k < n) (map number xs) q (All-map (λ (k : ℕ). k < n) number xs below) (Contains-from_any eqb-true q (map number xs) found)) in
     omega arith
-
-slice_cmp-self : (xs : List ℕ) → slice_cmp nat_cmp xs xs ≡ Equal
-slice_cmp-self [] = refl
-slice_cmp-self (x ∷ xs) = rw (nat_same x x refl, slice_cmp-self xs) refl
 
 -- how many forms the first items have
 abbrev forms_of_first : InstanceValue → ℕ → ℕ
@@ -82,17 +79,8 @@ module _ {N : ℕ} (I : InstanceValue) (t : ℕ) where
   pub pieces-le_forms : (pieces : List (Piece N)) → All (IsPiece I t) pieces → AllPairs (λ p q. ((p.item ≡ q.item) × (p.form ≡ q.form)) → ⊥) pieces → length pieces ≤ sum_by (λ (x : Item). length x.forms) I.items
   pieces-le_forms pieces each apart = numbered-le key (sum_by (λ (x : Item). length x.forms) I.items) pieces (record { item = 0; form = 0; weight = []; copies = 0 }) (λ k d lt. key-below (get_or pieces k d) (each k d lt)) (λ i j d lt in_range same. apart i j d lt in_range (key-apart (get_or pieces i d) (get_or pieces j d) (each i d (omega arith)) (each j d in_range) same))
 
-  -- pieces in order are of different forms
-  in_order-apart : (p q : Piece N) → IsPiece I t p → IsPiece I t q → piece_cmp p q ≡ Less → (p.item ≡ q.item) × (p.form ≡ q.form) → ⊥
-  in_order-apart p q hp hq less same =
-      let form : form_at I p.item p.form ≡ form_at I q.item q.form = ap₂ (form_at I) same.0 same.1 in
-      let weight : p.weight ≡ q.weight = hp.weighs ∙ (ap (padded N) form ∙ sym hq.weighs) in
-      let by_weight : slice_cmp nat_cmp q.weight p.weight ≡ Equal = ap (slice_cmp nat_cmp q.weight) weight ∙ slice_cmp-self q.weight in
-      let equal : piece_cmp p q ≡ Equal = rw (by_weight, nat_same p.item q.item same.0, nat_same p.form q.form same.1) refl in
-      cc
-
   pub pieces-apart : (pieces : List (Piece N)) → ArePieces I t pieces → AllPairs (λ p q. ((p.item ≡ q.item) × (p.form ≡ q.form)) → ⊥) pieces
-  pieces-apart pieces h i j d lt in_range = in_order-apart (get_or pieces i d) (get_or pieces j d) (h.each i d (omega arith)) (h.each j d in_range) (Less-from_sorted piece_cmp pieces i j d h.order lt in_range)
+  pieces-apart pieces h i j d lt in_range = apart I t (get_or pieces i d) (get_or pieces j d) (h.each i d (omega arith)) (h.each j d in_range) (Less-from_sorted piece_cmp pieces i j d h.order lt in_range)
 
   -- the pieces of a type are what a level graph is made of
   pub pieces_are_list : IsInstance I → IsAmong t (length I.types) → (pieces : List (Piece N)) → ArePieces I t pieces → IsPieceList pieces (padded N (type_at I t).cap)

@@ -6,8 +6,9 @@ ghost use Rattle.packing_laws.specs.Floors.{vector_fits};
 ghost use Rattle.packing_laws.specs.Instances.{type_at};
 ghost use Rattle.arc_compile.specs.Ranks.{AddsForms, AreRanked, rank_cmp, forms_of};
 
-use crate::ranks::{Ranked, sort_distinct};
+use crate::ranks::Ranked;
 use arc_num::{MAX_FORMS, Memory};
+use label_graph::sort_distinct;
 use packing_laws::{Instance, Item};
 use std::alloc::Global;
 use std::cmp::Reverse;

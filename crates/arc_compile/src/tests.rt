@@ -1,6 +1,7 @@
-//! The pieces and the sizes of worked instances.
+//! The pieces, the graphs and the sizes of worked instances.
 use super::*;
 use arc_num::Memory;
+use flow_graph::ArcKind;
 use packing_laws::{BinType, Instance, Item, Numbers, Vectors};
 use std::alloc::Global;
 use std::test::Fail;
@@ -23,6 +24,24 @@ fn plain(alloc: Global, cap: &[u32], items: &[(&[u32], u32)]) -> Result<Option<I
         limit: None,
     };
     Ok(Instance::new(dims, vec![in alloc; bin_type]?, listed))
+}
+
+/// A dear type without limit beside a cheap one of which there is one bin, and two units of an item.
+fn two_types(alloc: Global) -> Result<Option<Instance>, Memory> {
+    let mut types = Vec::new(alloc);
+    for (cost, limit) in [(1, Some(1)), (5, None)] {
+        types.push(BinType {
+            cap: Numbers::new(Vec::from_slice(alloc, &[10])?),
+            cost,
+            limit,
+        })?;
+    }
+    let form = Numbers::new(Vec::from_slice(alloc, &[6])?);
+    let item = Item {
+        demand: 2,
+        forms: Vectors::new(vec![in alloc; form]?),
+    };
+    Ok(Instance::new(1, types, vec![in alloc; item]?))
 }
 
 fn size_of(alloc: Global, instance: &Instance) -> Result<(u128, u128), Memory> {
@@ -60,4 +79,68 @@ fn two_dimensions_and_none(rt: HostRuntime) -> Result<(), Fail> {
     let empty = plain(alloc, &[10], &[])?.ok_or("no instance")?;
     assert_eq!(rt; size_of(alloc, &empty)?, (1, 0));
     Ok(())
+}
+
+#[test]
+fn three_forms_on_a_bar(rt: HostRuntime) -> Result<(), Fail> {
+    let alloc = rt.alloc();
+    let items: [(&[u32], u32); 3] = [(&[4], 1), (&[3], 3), (&[2], 1)];
+    let instance = plain(alloc, &[9], &items)?.ok_or("no instance")?;
+    for workers in [1, 4] {
+        let compiled = compile(&rt, alloc, &instance, workers)?;
+        assert_eq!(rt; compiled.graph.arc_count(), 12);
+        let size = TypeSize {
+            main_nodes: 6,
+            main_arcs: 11,
+            final_nodes: 6,
+            final_arcs: 11,
+        };
+        assert_eq!(rt; compiled.sizes.as_slice(), &[size][..]);
+    }
+    Ok(())
+}
+
+#[test]
+fn two_forms_merge_to_two_nodes(rt: HostRuntime) -> Result<(), Fail> {
+    let alloc = rt.alloc();
+    let items: [(&[u32], u32); 2] = [(&[6], 1), (&[5], 1)];
+    let instance = plain(alloc, &[10], &items)?.ok_or("no instance")?;
+    let compiled = compile(&rt, alloc, &instance, 1)?;
+    let size = TypeSize {
+        main_nodes: 3,
+        main_arcs: 4,
+        final_nodes: 2,
+        final_arcs: 3,
+    };
+    assert_eq!(rt; compiled.sizes.as_slice(), &[size][..]);
+    let second = ArcKind::Piece {
+        t: 1,
+        tail: 1,
+        head: 2,
+        item: 2,
+        form: 1,
+    };
+    assert_eq!(rt; compiled.graph.arc(4), Some(second));
+    assert_eq!(rt; compiled.graph.arc(5), None);
+    Ok(())
+}
+
+#[test]
+fn two_types_have_two_graphs(rt: HostRuntime) -> Result<(), Fail> {
+    let alloc = rt.alloc();
+    let instance = two_types(alloc)?.ok_or("no instance")?;
+    for workers in [1, 4] {
+        let compiled = compile(&rt, alloc, &instance, workers)?;
+        assert_eq!(rt; compiled.graph.arc_count(), 6);
+        assert_eq!(rt; compiled.graph.type_count(), 2);
+    }
+    Ok(())
+}
+
+#[test]
+fn laws_hold() {
+    final_graphs_are_exact();
+    compiled_graphs_are_faithful();
+    padding_keeps_graphs();
+    sizes_are_one();
 }

@@ -76,14 +76,8 @@ fn main_graph<const N: usize>(
     };
     instance.known();
     level_graphs_are_graphs();
-    let pieces = match pieces_of::<N>(alloc, instance, t) {
-        Ok(pieces) => pieces,
-        Err(Memory) => return Err(GraphFault::Memory),
-    };
-    let level = match levels(alloc, pieces.as_slice(), &cap) {
-        Ok(level) => level,
-        Err(Memory) => return Err(GraphFault::Memory),
-    };
+    let pieces = pieces_of::<N>(alloc, instance, t)?;
+    let level = levels(alloc, pieces.as_slice(), &cap)?;
     compress_main(alloc, &level, &cap, room)
 }
 

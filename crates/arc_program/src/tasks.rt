@@ -135,11 +135,7 @@ fn level_sizes(alloc: Global, instance: &Instance) -> Result<Vec<(u128, u128)>, 
 }
 
 /// The report on the graphs of an instance that is compiled.
-fn graph_report(
-    alloc: Global,
-    instance: &Instance,
-    compiled: &Compiled,
-) -> Result<Report, Memory>
+fn graph_report(alloc: Global, instance: &Instance, compiled: &Compiled) -> Result<Report, Memory>
     requires compiled { AreCompiled instance.now compiled.now.graph compiled.now.sizes }
     requires small { IsSmall instance.now }
     ensures reported { IfOk result (λ report. IsReported report.status) }

@@ -1,5 +1,6 @@
 //! The rows that the commands are known by. Each row says its status, so a run that only gives up is refused by them.
 use crate::{Answer, Command, Status, WordFault, compile_text, read_words, run, solve_text};
+use arc_compile::compile;
 use arc_io::{MemShelf, MemSink, NamedBytes};
 use arc_num::MAX_INSTANCE;
 use packing_laws::Packing;
@@ -182,43 +183,45 @@ fn solve_takes_the_cheapest_type(rt: HostRuntime) -> Result<(), Fail> {
 }
 
 #[test]
-fn compile_counts_levels(rt: HostRuntime) -> Result<(), Fail> {
+fn compile_counts_nodes_and_arcs(rt: HostRuntime) -> Result<(), Fail> {
     for (words, name, text, out) in [
         (
             "compile a.vbp",
             "a.vbp",
             "1 9 3 4 1 3 3 2 1",
-            "dims 1 types 1 items 3 units 5\ntype 1 level 20 29\n",
+            "dims 1 types 1 items 3 units 5\ntype 1 level 20 29 main 6 11 final 6 11\narcs 12\n",
         ),
         (
             "compile a.vbp",
             "a.vbp",
             "2 5 5 2 3 2 2 2 3 2",
-            "dims 2 types 1 items 2 units 4\ntype 1 level 7 9\n",
+            "dims 2 types 1 items 2 units 4\ntype 1 level 7 9 main 3 4 final 3 4\narcs 5\n",
         ),
         (
             "compile a.vbp",
             "a.vbp",
             "1 10 2 6 1 5 1",
-            "dims 1 types 1 items 2 units 2\ntype 1 level 6 7\n",
+            "dims 1 types 1 items 2 units 2\ntype 1 level 6 7 main 3 4 final 2 3\narcs 4\n",
         ),
         (
             "compile a.vbp",
             "a.vbp",
             "1 10 0",
-            "dims 1 types 1 items 0 units 0\ntype 1 level 1 0\n",
+            "dims 1 types 1 items 0 units 0\ntype 1 level 1 0 main 1 0 final 1 0\narcs 1\n",
         ),
         (
             "compile a.mvp",
             "a.mvp",
-            "1 2 10 1 1 5 1 -1 1 1 2 6",
-            "dims 1 types 2 items 1 units 2\ntype 1 level 3 3\ntype 2 level 1 0\n",
+            "1 2 10 1 1 7 2 -1 2 2 2 6 4 1 3 5",
+            "dims 1 types 2 items 2 units 5\ntype 1 level 15 21 main 5 9 final 4 8\n\
+             type 2 level 10 12 main 4 6 final 2 4\narcs 14\n",
         ),
         (
             "compile a --mvp",
             "a",
-            "1 2 10 1 1 5 1 -1 1 1 2 6",
-            "dims 1 types 2 items 1 units 2\ntype 1 level 3 3\ntype 2 level 1 0\n",
+            "1 2 10 1 1 7 2 -1 2 2 2 6 4 1 3 5",
+            "dims 1 types 2 items 2 units 5\ntype 1 level 15 21 main 5 9 final 4 8\n\
+             type 2 level 10 12 main 4 6 final 2 4\narcs 14\n",
         ),
     ] {
         let outcome = run_over(&rt, rt.alloc(), words, name, text)?;
@@ -383,11 +386,15 @@ fn reports_are_printed(rt: HostRuntime) -> Result<(), Fail> {
     let text = b"1 10 0";
     prove!(text.len() <= MAX_INSTANCE);
     let instance = read_vbp(rt.alloc(), text)?;
-    let report = compile_text(rt.alloc(), &instance, &[(1, 0)])?;
-    assert_eq!(rt;
-        report.as_slice(),
-        b"dims 1 types 1 items 0 units 0\ntype 1 level 1 0\n".as_slice()
-    );
+    let compiled = compile(&rt, rt.alloc(), &instance, 1)?;
+    if compiled.sizes.as_slice().len() == 1 {
+        let report = compile_text(rt.alloc(), &instance, &compiled, &[(1, 0)])?;
+        let text: &[u8] =
+            b"dims 1 types 1 items 0 units 0\ntype 1 level 1 0 main 1 0 final 1 0\narcs 1\n";
+        assert_eq!(rt; report.as_slice(), text);
+    } else {
+        panic!(rt; "not one type");
+    }
     Ok(())
 }
 

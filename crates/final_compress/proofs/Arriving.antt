@@ -12,11 +12,8 @@ use Rattle.label_graph.specs.declared.parts.Mark.TheVariants.{Loss, Piece as Car
 use Rattle.label_graph.specs.declared.parts.GraphArc.{GraphArc}
 use Rattle.label_graph.specs.Graph.{GraphValue, IsGraph, ArcBefore, IsKnown, IsPath, weight_in, mark_weight, label_of}
 use Rattle.label_graph.proofs.Paths.{IsPath-append, weight-bound}
-use Rattle.final_compress.proofs.Members.{contains_nothing}
-
-pub weight-append : {N : ℕ} (pieces : List (Piece N)) (d : ℕ) (p q : List GraphArc) → weight_in pieces d (p ++ q) ≡ weight_in pieces d p + weight_in pieces d q
-weight-append pieces d [] q = omega arith
-weight-append pieces d (e ∷ p) q = omega (arith, weight-append pieces d p q)
+use Rattle.label_graph.proofs.Members.{contains_nothing}
+use Rattle.label_graph.proofs.Paths.{weight-append}
 
 -- some way that arrives at node v, wherever it begins, weighs x in dimension d, and none weighs more
 pub record IsHeaviestWay {N : ℕ} (pieces : List (Piece N)) (arcs : List GraphArc) (v d x : ℕ) : Type 0 where

@@ -14,12 +14,8 @@ use Rattle.label_graph.proofs.Merging.{label-contains, label-node}
 use Rattle.label_graph.proofs.Paths.{IsPath-append}
 use Rattle.final_compress.specs.FinalGraphs.{IsSourceLabel, AreSourceLabels}
 use Rattle.final_compress.specs.FinalLaws.{FinalGraphsAreGraphs, FinalPathsWeighNoMore, FinalGraphsKeepContents, FinalGraphsAreOne}
-use Rattle.final_compress.proofs.Arriving.{weight-append}
+use Rattle.label_graph.proofs.Paths.{weight-append, node-label}
 use Rattle.final_compress.proofs.Sources.{source-labelling}
-
--- a label of the list is that of a node
-pub node-label : (labels : List (List ℕ)) (k : ℕ) (d : List ℕ) → k < length labels → label_of labels (k + 1) ≡ get_or labels k d
-node-label labels k d lt = let node : k + 1 - 1 ≡ k = omega arith in ap (λ (i : ℕ). get_or labels i []) node ∙ get_or_default labels k [] d lt
 
 pub label-of_node : {N : ℕ} (g : GraphValue N) (labels : List (List ℕ)) → AreSourceLabels g labels → (k : ℕ) (e : List ℕ) → k < length labels → IsSourceLabel g (k + 1) (get_or labels k e)
 label-of_node g labels are k e lt =

@@ -9,18 +9,15 @@ use Rattle.weight_vec.proofs.Places.{get_or-plus}
 use Rattle.label_graph.specs.declared.parts.GraphArc.{GraphArc}
 use Rattle.label_graph.specs.Graph.{GraphValue, IsGraph, IsKnown, IsPath, weight_in, mark_weight, label_of}
 use Rattle.label_graph.specs.Images.{IsLabelling}
-use Rattle.label_graph.proofs.Paths.{IsPath-append, way_to}
+use Rattle.label_graph.proofs.Paths.{IsPath-append, weight-append, climbs-at, way_to}
 use Rattle.final_compress.specs.FinalGraphs.{AreSourceLabels}
-use Rattle.final_compress.proofs.Arriving.{AreBrought, carried-sized, weight-append}
+use Rattle.final_compress.proofs.Arriving.{AreBrought, carried-sized}
 
 module _ {N : ℕ} (g : GraphValue N) (is : IsGraph N g) where
-  pub climbs-at : (e : GraphArc) → Contains g.arcs e → (1 ≤ e.tail) × (e.tail < e.head) × (e.head ≤ length g.labels)
-  climbs-at e m = All-contains (λ (e : GraphArc). (1 ≤ e.tail) × (e.tail < e.head) × (e.head ≤ length g.labels)) g.arcs e is.climbs m
-
   -- a path to a node of the graph begins at a node of the graph
   pub path-begin : (path : List GraphArc) (a b : ℕ) → 1 ≤ b → b ≤ length g.labels → IsPath g.arcs a b path → (1 ≤ a) × (a ≤ length g.labels)
   path-begin [] a b low high h = (omega arith, omega arith)
-  path-begin (e ∷ path) a b low high h = let up = climbs-at e h.0 in (omega (arith, up.0, h.1), omega (arith, up.1, up.2, h.1))
+  path-begin (e ∷ path) a b low high h = let up = climbs-at N g is e h.0 in (omega (arith, up.0, h.1), omega (arith, up.1, up.2, h.1))
 
   -- past the places of the graph nothing weighs
   pub carried-past : (e : GraphArc) → Contains g.arcs e → (d : ℕ) → N ≤ d → get_or (mark_weight g.pieces e.mark) d 0 ≡ 0
@@ -60,7 +57,7 @@ module _ {N : ℕ} (g : GraphValue N) (is : IsGraph N g) (labels : List (List �
 
     source-rises : (e : GraphArc) → Contains g.arcs e → AtMost (plus (label_of labels e.tail) (mark_weight g.pieces e.mark)) (label_of labels e.head)
     source-rises e m d =
-        let up = climbs-at g is e m in
+        let up = climbs-at N g is e m in
         let tail = are.each e.tail up.0 (omega (arith, up.1, up.2)) in
         let head = are.each e.head (omega (arith, up.0, up.1)) up.2 in
         ⊎_elim

@@ -3,24 +3,19 @@ ghost use Rattle.weight_vec.specs.Weight.{IsInRange, plus};
 ghost use Rattle.label_graph.specs.Graph.{IsKnown, mark_weight};
 ghost use Rattle.final_compress.specs.FinalGraphs.{IsFinalGraph, AreSourceLabels};
 
-use arc_num::{MAX_ARCS, Memory};
-use label_graph::{Graph, GraphFault, Mark, Piece, quotient};
+use arc_num::Memory;
+use label_graph::{Graph, Mark, Piece, image};
 use std::alloc::Global;
 use weight_vec::Weights;
 
 /// The final graph of a graph.
 pub fn compress_final<const N: usize>(alloc: Global, graph: &Graph<N>) -> Result<Graph<N>, Memory>
-    requires small { N ≤ 32 }
-    requires few { length graph.now.arcs ≤ MAX_ARCS }
+    requires { N ≤ 32 }
     ensures { IfOk result (IsFinalGraph graph.now) }
 {
     let labels = source_labels(alloc, graph)?;
     graph.known();
-    match quotient(alloc, graph, labels.as_slice(), MAX_ARCS) {
-        Ok(image) => Ok(image),
-        Err(GraphFault::Memory) => Err(Memory),
-        Err(GraphFault::TooManyArcs) => unreachable!(),
-    }
+    image(alloc, graph, labels.as_slice())
 }
 
 // The labels of all nodes from the source, in one pass from the first arc to the last. A node starts with no weight,

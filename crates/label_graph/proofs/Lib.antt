@@ -1,3 +1,4 @@
+pub mod Members
 pub mod Paths
 pub mod Merging
 pub mod ImageGraphs
@@ -7,3 +8,5 @@ pub mod Cutting
 pub mod Numbering
 pub mod MergedArcs
 pub mod WorkedGraph
+pub mod Fewer
+pub mod CutPaths

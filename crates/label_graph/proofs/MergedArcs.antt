@@ -16,7 +16,7 @@ use Rattle.label_graph.specs.declared.parts.Mark.TheVariants.{Loss, Piece as Car
 use Rattle.label_graph.specs.Graph.{GraphValue, IsGraph, ArcBefore, MarkBefore}
 use Rattle.label_graph.specs.Images.{IsLabelling, IsImage, AreDistinct, IsMergedInto, BecomesArc}
 use Rattle.label_graph.specs.Merges.{AreNodes, HasEnds, is_loss, merged_arc}
-use Rattle.label_graph.proofs.OneImage.{member_cases, member_here, member_there, no_member}
+use Rattle.label_graph.proofs.Members.{contains_cons, contains_here, contains_there, contains_nothing}
 use Rattle.label_graph.proofs.Merging.{arc-ends, node-one}
 
 -- one more element
@@ -30,26 +30,26 @@ filter_map-same {X} {Y} h xs i d lt is = filter_map-more h xs i d None lt is ∙
 module _ {X Y : Type 0} (h : X → Option Y) where
   member_cons_option : (o : Option Y) (ys : List Y) (y : Y) → Contains ys y → Contains (cons_option o ys) y
   member_cons_option None ys y m = m
-  member_cons_option (Some z) ys y m = member_there z ys y m
+  member_cons_option (Some z) ys y m = contains_there z ys y m
 
   cons_option-cases : (o : Option Y) (ys : List Y) (y : Y) → Contains (cons_option o ys) y → (o ≡ Some y) ⊎ Contains ys y
   cons_option-cases None ys y m = inr m
-  cons_option-cases (Some z) ys y m = ⊎_elim (λ same. inl (ap Some same)) (λ later. inr later) (member_cases z ys y m)
+  cons_option-cases (Some z) ys y m = ⊎_elim (λ same. inl (ap Some same)) (λ later. inr later) (contains_cons z ys y m)
 
   to_filter_map : (xs : List X) (x : X) (y : Y) → Contains xs x → h x ≡ Some y → Contains (filter_map h xs) y
-  to_filter_map [] x y m e = absurd (no_member x m)
+  to_filter_map [] x y m e = absurd (contains_nothing x m)
   to_filter_map (z ∷ xs) x y m e =
       ⊎_elim
-      (λ same. let f : h z ≡ Some y = ap h same ∙ e in rw f (member_here y (filter_map h xs)))
+      (λ same. let f : h z ≡ Some y = ap h same ∙ e in rw f (contains_here y (filter_map h xs)))
       (λ later. member_cons_option (h z) (filter_map h xs) y (to_filter_map xs x y later e))
-      (member_cases z xs x m)
+      (contains_cons z xs x m)
 
   from_filter_map : (xs : List X) (y : Y) → Contains (filter_map h xs) y → (x : X) × Contains xs x × (h x ≡ Some y)
-  from_filter_map [] y m = absurd (no_member y m)
+  from_filter_map [] y m = absurd (contains_nothing y m)
   from_filter_map (z ∷ xs) y m =
       ⊎_elim
-      (λ same. (z, member_here z xs, same))
-      (λ later. let rest = from_filter_map xs y later in (rest.0, member_there z xs rest.0 rest.1, rest.2))
+      (λ same. (z, contains_here z xs, same))
+      (λ later. let rest = from_filter_map xs y later in (rest.0, contains_there z xs rest.0 rest.1, rest.2))
       (cons_option-cases (h z) (filter_map h xs) y m)
 
 pub number-less : (x y : ℕ) → nat_cmp x y ≡ Less → x < y

@@ -7,24 +7,8 @@ use Rattle.label_graph.specs.declared.parts.Mark.TheVariants.{Loss, Piece as Car
 use Rattle.label_graph.specs.declared.parts.GraphArc.{GraphArc}
 use Rattle.label_graph.specs.Graph.{GraphValue, ArcBefore, MarkBefore}
 use Rattle.label_graph.specs.Images.{IsImage, BecomesArc}
+use Rattle.label_graph.proofs.Members.{contains_cons, contains_here, contains_there, contains_nothing}
 use Rattle.label_graph.proofs.Merging.{before-one_way}
-
-module _ {X : Type 0} where
-  member_at : (x : X) (xs : List X) (y : X) (k : ℕ) → k < length (x ∷ xs) → get_or (x ∷ xs) k y ≡ y → (x ≡ y) ⊎ Contains xs y
-  member_at x xs y zero lt e = inl e
-  member_at x xs y (suc k) lt e = inr (k, omega arith, e)
-
-  pub member_cases : (x : X) (xs : List X) (y : X) → Contains (x ∷ xs) y → (x ≡ y) ⊎ Contains xs y
-  member_cases x xs y h = member_at x xs y h.0 h.1 h.2
-
-  pub member_here : (x : X) (xs : List X) → Contains (x ∷ xs) x
-  member_here x xs = (0, omega arith, refl)
-
-  pub member_there : (x : X) (xs : List X) (y : X) → Contains xs y → Contains (x ∷ xs) y
-  member_there x xs y h = let lt : h.0 < length xs = h.1 in (suc h.0, omega arith, h.2)
-
-  pub no_member : (x : X) → Contains [] x → ⊥
-  no_member x h = let lt : h.0 < 0 = h.1 in omega arith
 
 module _ {X : Type 0} (R : X → X → Type 0) (one_way : (x y : X) → R x y → R y x → ⊥) where
   first-before : (y : X) (ys : List X) (x : X) → AllPairs R (y ∷ ys) → Contains ys x → R y x
@@ -42,18 +26,18 @@ module _ {X : Type 0} (R : X → X → Type 0) (one_way : (x y : X) → R x y �
       ⊎_elim
       (λ e. let itself : R x x = subst (λ (w : X). R x w) (sym (same ∙ e)) (first-before x xs z up m) in absurd (one_way x x itself itself))
       (λ late. late)
-      (member_cases y ys z (there z (member_there x xs z m)))
+      (contains_cons y ys z (there z (contains_there x xs z m)))
 
   pub same-list : (xs ys : List X) → AllPairs R xs → AllPairs R ys → ((x : X) → Contains xs x → Contains ys x) → ((x : X) → Contains ys x → Contains xs x) → xs ≡ ys
   same-list [] [] up down there back = refl
-  same-list [] (y ∷ ys) up down there back = absurd (no_member y (back y (member_here y ys)))
-  same-list (x ∷ xs) [] up down there back = absurd (no_member x (there x (member_here x xs)))
+  same-list [] (y ∷ ys) up down there back = absurd (contains_nothing y (back y (contains_here y ys)))
+  same-list (x ∷ xs) [] up down there back = absurd (contains_nothing x (there x (contains_here x xs)))
   same-list (x ∷ xs) (y ∷ ys) up down there back =
       let same : x ≡ y =
       ⊎_elim
       (λ e. sym e)
-      (λ late. ⊎_elim (λ e. e) (λ after. absurd (one_way x y (first-before x xs y up after) (first-before y ys x down late))) (member_cases x xs y (back y (member_here y ys))))
-      (member_cases y ys x (there x (member_here x xs))) in
+      (λ late. ⊎_elim (λ e. e) (λ after. absurd (one_way x y (first-before x xs y up after) (first-before y ys x down late))) (contains_cons x xs y (back y (contains_here y ys))))
+      (contains_cons y ys x (there x (contains_here x xs))) in
       let rest = same-list xs ys (rest-up x xs up) (rest-up y ys down) (rest-member x y xs ys up same there) (rest-member y x ys xs down (sym same) back) in
       λ i. same i ∷ rest i
 

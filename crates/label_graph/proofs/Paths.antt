@@ -1,9 +1,11 @@
 -- Paths joined end to end, the ways to and from each node, and what paths weigh.
-use Rattle.std.proofs.Common.{◌≡◌, ℕ, zero, suc, ◌+◌, ◌<◌, ◌≤◌, List, [], ◌∷◌, ◌++◌, length, get_or, refl, sym, ap, subst, ⊎_elim, arith}
+use Rattle.std.proofs.Common.{◌≡◌, ℕ, zero, suc, ◌+◌, ◌-◌, ◌<◌, ◌≤◌, List, [], ◌∷◌, ◌++◌, length, get_or, refl, sym, ap, ◌∙◌, subst, ⊎_elim, arith}
 use Rattle.std.specs.Prelude.{Contains}
 use Rattle.std.proofs.lemmas.List.Elements.{All-contains}
 use Rattle.std.proofs.lemmas.Bool.{cases_lt}
+use Rattle.std.proofs.lemmas.List.{get_or_default}
 use Rattle.label_graph.specs.declared.parts.GraphArc.{GraphArc}
+use Rattle.label_graph.specs.declared.parts.Piece.{Piece}
 use Rattle.label_graph.specs.Graph.{GraphValue, IsGraph, IsPath, weight_in, mark_weight, label_of}
 use Rattle.label_graph.specs.GraphLaws.{OnPath}
 use Rattle.weight_vec.proofs.Places.{get_or-plus}
@@ -13,9 +15,17 @@ pub IsPath-append : (arcs : List GraphArc) (a b c : ℕ) (p q : List GraphArc) �
 IsPath-append arcs a b c [] q h k = subst (λ (v : ℕ). IsPath arcs v c q) (sym h) k
 IsPath-append arcs a b c (e ∷ p) q h k = (h.0, h.1, IsPath-append arcs e.head b c p q h.2 k)
 
+-- a label of the list is that of a node
+pub node-label : (labels : List (List ℕ)) (k : ℕ) (d : List ℕ) → k < length labels → label_of labels (k + 1) ≡ get_or labels k d
+node-label labels k d lt = let node : k + 1 - 1 ≡ k = omega arith in ap (λ (i : ℕ). get_or labels i []) node ∙ get_or_default labels k [] d lt
+
+pub weight-append : {N : ℕ} (pieces : List (Piece N)) (d : ℕ) (p q : List GraphArc) → weight_in pieces d (p ++ q) ≡ weight_in pieces d p + weight_in pieces d q
+weight-append pieces d [] q = omega arith
+weight-append pieces d (e ∷ p) q = omega (arith, weight-append pieces d p q)
+
 module _ (N : ℕ) (g : GraphValue N) (is : IsGraph N g) where
-  up : (e : GraphArc) → Contains g.arcs e → (1 ≤ e.tail) × (e.tail < e.head) × (e.head ≤ length g.labels)
-  up e h = All-contains (λ (e : GraphArc). (1 ≤ e.tail) × (e.tail < e.head) × (e.head ≤ length g.labels)) g.arcs e is.climbs h
+  pub climbs-at : (e : GraphArc) → Contains g.arcs e → (1 ≤ e.tail) × (e.tail < e.head) × (e.head ≤ length g.labels)
+  climbs-at e h = All-contains (λ (e : GraphArc). (1 ≤ e.tail) × (e.tail < e.head) × (e.head ≤ length g.labels)) g.arcs e is.climbs h
 
   -- the way on, by at most so many arcs
   pub way_on : (fuel v : ℕ) → 1 ≤ v → v ≤ length g.labels → length g.labels ≤ v + fuel → (p : List GraphArc) × IsPath g.arcs v (length g.labels) p
@@ -23,7 +33,7 @@ module _ (N : ℕ) (g : GraphValue N) (is : IsGraph N g) where
   way_on (suc fuel) v low high far =
       ⊎_elim
       (λ lt. let next = is.leaves v low lt in
-      let climbs = up next.0 next.1 in
+      let climbs = climbs-at next.0 next.1 in
       let rest = way_on fuel next.0.head (omega (arith, climbs.0, climbs.1)) climbs.2 (omega (arith, climbs.1, next.2)) in
       (next.0 ∷ rest.0, (next.1, next.2, rest.1)))
       (λ ge. ([], omega arith))
@@ -35,7 +45,7 @@ module _ (N : ℕ) (g : GraphValue N) (is : IsGraph N g) where
   way_to (suc fuel) v low high near =
       ⊎_elim
       (λ lt. let last = is.enters v lt high in
-      let climbs = up last.0 last.1 in
+      let climbs = climbs-at last.0 last.1 in
       let front = way_to fuel last.0.tail climbs.0 (omega (arith, climbs.1, climbs.2)) (omega (arith, climbs.1, last.2)) in
       (front.0 ++ last.0 ∷ [], IsPath-append g.arcs 1 last.0.tail v front.0 (last.0 ∷ []) front.1 (last.1, refl, last.2)))
       (λ ge. ([], omega arith))

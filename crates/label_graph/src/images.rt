@@ -17,7 +17,7 @@ use indexmap::IndexSet;
 use std::alloc::Global;
 use weight_vec::Weights;
 
-/// The image of a graph under new labels, one for each node.
+/// The image of a graph under new labels, one for each node, where it has not more arcs than there is room for.
 pub fn quotient<const N: usize>(
     alloc: Global,
     graph: &Graph<N>,
@@ -30,14 +30,28 @@ pub fn quotient<const N: usize>(
     ensures roomy { IfOk result (λ image. length image.arcs ≤ room) }
     ensures full { IfErr result (λ fault. fault ≡ GraphFault.TooManyArcs → (image : GraphValue N) × IsImage graph.now labels.now image × (room < length image.arcs)) }
 {
+    let merged = image(alloc, graph, labels)?;
+    if merged.arcs().len() > room as usize {
+        return Err(GraphFault::TooManyArcs);
+    }
+    Ok(merged)
+}
+
+/// The image of a graph under new labels, one for each node.
+pub fn image<const N: usize>(
+    alloc: Global,
+    graph: &Graph<N>,
+    labels: &[Weights<N>],
+) -> Result<Graph<N>, Memory>
+    requires small { N ≤ 32 }
+    requires labelling { IsLabelling graph.now labels.now }
+    ensures { IfOk result (IsImage graph.now labels.now) }
+{
     graph.known();
     known_weights(labels);
     images_are_graphs();
     let distinct = distinct_labels(alloc, labels)?;
     let arcs = image_arcs(alloc, graph, labels, distinct.as_slice())?;
-    if arcs.len() > room as usize {
-        return Err(GraphFault::TooManyArcs);
-    }
     let pieces = Vec::from_slice(alloc, graph.pieces())?;
     Ok(Graph::new(pieces, distinct, arcs))
 }

@@ -8,7 +8,7 @@ mod lists;
 mod parts;
 
 pub use graph::Graph;
-pub use images::quotient;
+pub use images::{image, quotient};
 pub use laws::{
     cuts_keep_images, images_are_graphs, images_are_one, images_keep_contents,
     labels_bound_weights, nodes_lie_on_paths,

@@ -6,7 +6,7 @@ ghost use Rattle.level_graph.specs.Layers.{AreStates, AppendsStep, take_mark, sk
 use crate::layers::{layer_of, take, used_weights, weights_of};
 use crate::states::State;
 use arc_num::{MAX_ALL_FORMS, Memory};
-use label_graph::{Graph, GraphArc, Mark, Piece};
+use label_graph::{Graph, GraphArc, Mark, Piece, known_weights};
 use std::alloc::Global;
 use weight_vec::Weights;
 
@@ -30,18 +30,7 @@ pub fn levels<const N: usize>(
     Ok(Graph::new(pieces, labels, arcs))
 }
 
-// A call that costs nothing: how many numbers each weight has, and their range.
-fn known_weights<const N: usize>(weights: &[Weights<N>])
-    requires small { N ≤ 32 }
-    ensures sized { All (λ l. length l ≡ N) weights.now }
-    ensures ranged { All (λ l. IsInRange l) weights.now }
-{
-    for weight in weights {
-        weight.known();
-    }
-}
-
-// The same of the weights of pieces.
+// A call that costs nothing: how many numbers the weight of each piece has, and their range.
 fn known_pieces<const N: usize>(pieces: &[Piece<N>])
     requires small { N ≤ 32 }
     ensures sized { All (λ q. length q.weight ≡ N) pieces.now }

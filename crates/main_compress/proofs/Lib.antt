@@ -1,4 +1,3 @@
-pub mod Members
 pub mod Onward
 pub mod Targets
 pub mod MainPaths

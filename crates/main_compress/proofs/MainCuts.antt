@@ -12,36 +12,11 @@ use Rattle.label_graph.specs.Graph.{GraphValue, label_of, mark_weight, weight_in
 use Rattle.label_graph.specs.Heaviest.{IsGreatestWeight}
 use Rattle.label_graph.specs.Cuts.{IsPadded, cut_piece, cut_labels, cut_graph}
 use Rattle.label_graph.specs.ImageLaws.{CutsKeepImages}
+use Rattle.label_graph.proofs.CutPaths.{cut-greatest, cut-label}
 use Rattle.main_compress.specs.MainGraphs.{IsTargetLabel, AreTargetLabels}
 use Rattle.main_compress.specs.MainLaws.{CutsKeepMainGraphs}
 use Rattle.main_compress.proofs.Targets.{target-labelling}
 use Rattle.main_compress.proofs.MainPaths.{target-fits}
-
-cut-weight_of : {N : ℕ} (n : ℕ) (pieces : List (Piece N)) (i : ℕ) → get_or (map (λ (q : Piece n). q.weight) (map (cut_piece n) pieces)) i [] ≡ take n (get_or (map (λ (q : Piece N). q.weight) pieces) i [])
-cut-weight_of n [] i = sym (take_all n [] (omega arith))
-cut-weight_of n (q ∷ pieces) zero = refl
-cut-weight_of n (q ∷ pieces) (suc i) = cut-weight_of n pieces i
-
-cut-carried : {N : ℕ} (n : ℕ) (pieces : List (Piece N)) (m : Mark) (d : ℕ) → d < n → get_or (mark_weight (map (cut_piece n) pieces) m) d 0 ≡ get_or (mark_weight pieces m) d 0
-cut-carried n pieces Loss d lt = refl
-cut-carried {N} n pieces (Carries p) d lt =
-    ap (λ (l : List ℕ). get_or l d 0) (cut-weight_of n pieces (p - 1)) ∙ get_or-take n (get_or (map (λ (q : Piece N). q.weight) pieces) (p - 1) []) d 0 lt
-
-cut-weight : {N : ℕ} (n : ℕ) (pieces : List (Piece N)) (d : ℕ) → d < n → (path : List GraphArc) → weight_in (map (cut_piece n) pieces) d path ≡ weight_in pieces d path
-cut-weight n pieces d lt [] = refl
-cut-weight n pieces d lt (e ∷ path) = omega (arith, cut-carried n pieces e.mark d lt, cut-weight n pieces d lt path)
-
-cut-greatest : {N : ℕ} (n : ℕ) (g : GraphValue N) (a b d x : ℕ) → d < n → IsGreatestWeight g a b d x → IsGreatestWeight (cut_graph n g) a b d x
-cut-greatest n g a b d x lt is =
-    record {
-      path = is.path;
-      leads = is.leads;
-      weighs = cut-weight n g.pieces d lt is.path ∙ is.weighs;
-      most = λ other h. omega (arith, cut-weight n g.pieces d lt other, is.most other h);
-    }
-
-cut-label : (n : ℕ) (labels : List (List ℕ)) (v : ℕ) → 1 ≤ v → v ≤ length labels → label_of (cut_labels n labels) v ≡ take n (label_of labels v)
-cut-label n labels v low high = get_or-map (take n) labels (v - 1) [] [] (omega arith)
 
 cut-targets : {N : ℕ} (n : ℕ) (cap : List ℕ) (g : GraphValue N) (labels : List (List ℕ)) → n ≤ N → AreTargetLabels cap g labels → AreTargetLabels (take n cap) (cut_graph n g) (cut_labels n labels)
 cut-targets {N} n cap g labels le are =

@@ -10,13 +10,10 @@ use Rattle.label_graph.specs.GraphLaws.{LabelsBoundWeights}
 use Rattle.label_graph.specs.ImageLaws.{ImagesAreGraphs, ImagesKeepContents, ImagesAreOne}
 use Rattle.label_graph.specs.Images.{IsImage}
 use Rattle.label_graph.proofs.Merging.{label-contains}
+use Rattle.label_graph.proofs.Paths.{node-label}
 use Rattle.main_compress.specs.MainGraphs.{IsRoomLeft, IsTargetLabel, AreTargetLabels}
 use Rattle.main_compress.specs.MainLaws.{MainGraphsAreGraphs, MainPathsFit, MainGraphsKeepContents, MainGraphsAreOne}
 use Rattle.main_compress.proofs.Targets.{target-labelling}
-
--- a label of the list is that of a node
-pub node-label : (labels : List (List ℕ)) (k : ℕ) (d : List ℕ) → k < length labels → label_of labels (k + 1) ≡ get_or labels k d
-node-label labels k d lt = let node : k + 1 - 1 ≡ k = omega arith in ap (λ (i : ℕ). get_or labels i []) node ∙ get_or_default labels k [] d lt
 
 -- each label from the target fits the capacity
 pub target-fits : {N : ℕ} (cap : List ℕ) (g : GraphValue N) (labels : List (List ℕ)) → AreTargetLabels cap g labels → All (λ (l : List ℕ). AtMost l cap) labels

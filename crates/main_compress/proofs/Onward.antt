@@ -10,7 +10,7 @@ use Rattle.label_graph.specs.declared.parts.Piece.{Piece}
 use Rattle.label_graph.specs.declared.parts.GraphArc.{GraphArc}
 use Rattle.label_graph.specs.Graph.{GraphValue, IsGraph, ArcBefore, IsKnown, IsPath, weight_in, mark_weight, label_of}
 use Rattle.label_graph.proofs.Paths.{weight-bound}
-use Rattle.main_compress.proofs.Members.{contains_cons, contains_here, contains_there, contains_nothing}
+use Rattle.label_graph.proofs.Members.{contains_cons, contains_here, contains_there, contains_nothing}
 
 -- some way on from node v, wherever it ends, weighs x in dimension d, and none weighs more
 pub record IsHeaviestWay {N : ℕ} (pieces : List (Piece N)) (arcs : List GraphArc) (v d x : ℕ) : Type 0 where

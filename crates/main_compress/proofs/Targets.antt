@@ -12,22 +12,15 @@ use Rattle.label_graph.specs.declared.parts.Mark.TheVariants.{Loss, Piece as Car
 use Rattle.label_graph.specs.declared.parts.GraphArc.{GraphArc}
 use Rattle.label_graph.specs.Graph.{GraphValue, IsGraph, IsPath, weight_in, mark_weight, label_of}
 use Rattle.label_graph.specs.Images.{IsLabelling}
-use Rattle.label_graph.proofs.Paths.{IsPath-append, way_on}
+use Rattle.label_graph.proofs.Paths.{IsPath-append, weight-append, climbs-at, way_on}
 use Rattle.main_compress.specs.MainGraphs.{AreTargetLabels}
 use Rattle.main_compress.proofs.Onward.{AreLeft}
 
-pub weight-append : {N : ℕ} (pieces : List (Piece N)) (d : ℕ) (p q : List GraphArc) → weight_in pieces d (p ++ q) ≡ weight_in pieces d p + weight_in pieces d q
-weight-append pieces d [] q = omega arith
-weight-append pieces d (e ∷ p) q = omega (arith, weight-append pieces d p q)
-
 module _ {N : ℕ} (g : GraphValue N) (is : IsGraph N g) where
-  pub climbs-at : (e : GraphArc) → Contains g.arcs e → (1 ≤ e.tail) × (e.tail < e.head) × (e.head ≤ length g.labels)
-  climbs-at e m = All-contains (λ (e : GraphArc). (1 ≤ e.tail) × (e.tail < e.head) × (e.head ≤ length g.labels)) g.arcs e is.climbs m
-
   -- a path from a node of the graph ends at a node of the graph
   pub path-end : (path : List GraphArc) (a b : ℕ) → 1 ≤ a → a ≤ length g.labels → IsPath g.arcs a b path → (1 ≤ b) × (b ≤ length g.labels)
   path-end [] a b low high h = (omega arith, omega arith)
-  path-end (e ∷ path) a b low high h = let up = climbs-at e h.0 in path-end path e.head b (omega (arith, up.0, up.1)) up.2 h.2
+  path-end (e ∷ path) a b low high h = let up = climbs-at N g is e h.0 in path-end path e.head b (omega (arith, up.0, up.1)) up.2 h.2
 
   -- past the places of the graph nothing weighs
   pub carried-past : (m : Mark) (d : ℕ) → N ≤ d → get_or (mark_weight g.pieces m) d 0 ≡ 0
@@ -77,7 +70,7 @@ module _ {N : ℕ} (cap : List ℕ) (g : GraphValue N) (is : IsGraph N g) (label
 
     target-rises : (e : GraphArc) → Contains g.arcs e → AtMost (plus (label_of labels e.tail) (mark_weight g.pieces e.mark)) (label_of labels e.head)
     target-rises e m d =
-        let up = climbs-at g is e m in
+        let up = climbs-at N g is e m in
         let tail = are.each e.tail up.0 (omega (arith, up.1, up.2)) in
         let head = are.each e.head (omega (arith, up.0, up.1)) up.2 in
         ⊎_elim

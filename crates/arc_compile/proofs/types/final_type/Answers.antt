@@ -1,7 +1,7 @@
 use Rattle.std.proofs.Common.{◌≡◌, ◌≤◌, ℕ, List, length, sym, subst, arith, rules}
 use Rattle.label_graph.specs.declared.parts.Piece.{Piece}
 use Rattle.flow_graph.specs.Arcs.{IsFlowType}
-use Rattle.final_compress.proofs.Fewer.{image-arcs}
+use Rattle.label_graph.proofs.Fewer.{image-arcs}
 use Rattle.arc_compile.specs.Compiled.{AreNamed}
 use Rattle.arc_compile.proofs.FlowTypes.{flow_type_of}
 use Rattle.arc_compile.proofs.NodeCounts.{nodes_few}

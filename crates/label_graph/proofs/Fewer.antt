@@ -10,7 +10,7 @@ use Rattle.label_graph.specs.Graph.{GraphValue, ArcBefore}
 use Rattle.label_graph.specs.Images.{IsImage, AreDistinct, BecomesArc}
 use Rattle.label_graph.proofs.Merging.{node-one}
 use Rattle.label_graph.proofs.OneImage.{arc-one_way}
-use Rattle.final_compress.proofs.Members.{contains_here, contains_there}
+use Rattle.label_graph.proofs.Members.{contains_here, contains_there}
 
 -- a list in order, each member of which comes from a member of another list, and no two from the same, is no longer
 module _ {X Y : Type 0} (R : X → X → Type 0) (apart : (x : X) → R x x → ⊥) (Comes : Y → X → Type 0) (one : (y : Y) (x z : X) → Comes y x → Comes y z → x ≡ z) where

@@ -1,7 +1,7 @@
 use Rattle.std.proofs.Common.{◌≡◌, ℕ, List, sym, subst, rules, ◌∙◌}
 use Rattle.label_graph.specs.declared.parts.Piece.{Piece}
 use Rattle.label_graph.specs.Images.{IsImage}
-use Rattle.label_graph.proofs.images.quotient.Goals as goal
+use Rattle.label_graph.proofs.images.image.Goals as goal
 
 pub new-requires : goal.new-requires
 new-requires g c =
