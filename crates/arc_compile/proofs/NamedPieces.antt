@@ -1,9 +1,8 @@
 -- The pieces of the main graph of a type have items and forms, and no two are of one form.
-use Rattle.std.proofs.Common.{◌≡◌, ◌∙◌, ℕ, List, get_or, sym, subst}
+use Rattle.std.proofs.Common.{◌≡◌, ◌∙◌, ℕ, List, sym, subst}
 use Rattle.packing_laws.specs.Instances.{InstanceValue}
 use Rattle.label_graph.specs.declared.parts.Piece.{Piece}
 use Rattle.label_graph.specs.Graph.{GraphValue}
-use Rattle.arc_compile.specs.Pieces.{ArePieces}
 use Rattle.arc_compile.specs.Graphs.{AreMainGraphs}
 use Rattle.arc_compile.specs.Compiled.{AreNamed}
 use Rattle.arc_compile.proofs.PieceNumbers.{pieces-apart}

@@ -1,5 +1,5 @@
 -- Graphs whose paths are the contents that fit a type of bins.
-use Rattle.std.specs.Prelude.{◌≡◌, ℕ, ◌-◌, List, [], ◌∷◌, length, map, slice_index_or}
+use Rattle.std.specs.Prelude.{ℕ, ◌-◌, List, [], ◌∷◌, length, map, slice_index_or}
 use Rattle.packing_laws.specs.Instances.{InstanceValue}
 use Rattle.packing_laws.specs.Packings.{Content, Fits, IsWithin}
 use Rattle.packing_laws.specs.Printed.{SameContent}

@@ -1,6 +1,5 @@
 -- Runs on instances whose graphs are too large.
-use Rattle.std.proofs.Common.{◌≡◌, ◌⊎◌, ◌≤◌, ◌<◌, ◌∙◌, ℕ, List, length, refl, sym, ap, subst, inl, inr, ⊎_elim, Some, None, IfSome, IfOk, Result, Ok, Err, IsOkAnd, IsSomeAnd, string_bytes, Bool, true, false, arith}
-use Rattle.arc_num.specs.declared.TheConstants.{MAX_INSTANCE}
+use Rattle.std.proofs.Common.{◌≡◌, ◌⊎◌, ◌∙◌, ℕ, List, sym, ap, subst, inl, inr, Some, None, IfSome, IfOk, Result, Ok, Err, IsOkAnd, IsSomeAnd, string_bytes, arith}
 use Rattle.arc_io.specs.Bytes.{Told, Files}
 use Rattle.arc_io.specs.Faults.{Rose}
 use Rattle.packing_laws.specs.Instances.{InstanceValue, IsInstance}
@@ -12,11 +11,11 @@ use Rattle.arc_compile.specs.CompileLaws.{SizesAreOne}
 use Rattle.arc_program.specs.declared.refusals.Refusal.{Refusal}
 use Rattle.arc_program.specs.declared.refusals.Refusal.TheVariants.{Words, Unread, Long, BadPlace, Large, Unwritten, Memory}
 use Rattle.arc_program.specs.declared.status.Status.{Status}
-use Rattle.arc_program.specs.declared.status.Status.TheVariants.{Done, Bracketed, Usage, BadInstance, BadCertificate, ReadFault as ReadFaults, WriteFault, NoMemory, TooLarge}
+use Rattle.arc_program.specs.declared.status.Status.TheVariants.{Usage, BadInstance, ReadFault as ReadFaults, WriteFault, NoMemory, TooLarge}
 use Rattle.arc_program.specs.declared.words.WordFault.{WordFault}
 use Rattle.arc_program.specs.Words.{Word, Request, Compiles, Solves, words_of}
 use Rattle.arc_program.specs.Refusals.{large_line}
-use Rattle.arc_program.specs.Runs.{name_of, layout_of, MakesGraphs, IsAccepted, IsLargeAt, IsLong, IsBadAt, IsReport, IsReported, HasReport, HasInstance, IsOwed, IsSaid, Says, SaysLarge, CountsReads, CountsPuts, SmallIsNotLarge}
+use Rattle.arc_program.specs.Runs.{name_of, layout_of, MakesGraphs, IsAccepted, IsLargeAt, IsLong, IsBadAt, IsReport, IsReported, HasInstance, IsOwed, IsSaid, Says, SaysLarge, CountsReads, CountsPuts, SmallIsNotLarge}
 
 reads-instance : ReadsItsRow Vbp → ReadsItsRow Mvp → (layout : Layout) (bytes : List ℕ) (I : InstanceValue) → layouts.Reads layout bytes I → IsInstance I
 reads-instance vbp mvp Vbp bytes I reads = ((vbp bytes I).0 reads).0.0

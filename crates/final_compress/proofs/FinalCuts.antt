@@ -1,8 +1,8 @@
 -- Zeros behind all weights change nothing of a final graph.
-use Rattle.std.proofs.Common.{◌≡◌, ℕ, zero, suc, ◌-◌, ◌<◌, ◌≤◌, List, [], ◌∷◌, length, get_or, take, map, refl, sym, ap, ◌∙◌, subst, ⊎_elim, arith}
+use Rattle.std.proofs.Common.{◌≡◌, ℕ, ◌-◌, ◌≤◌, List, [], ◌∷◌, length, get_or, take, map, refl, sym, ap, ◌∙◌, subst, ⊎_elim, arith}
 use Rattle.std.specs.Prelude.{All}
 use Rattle.std.proofs.lemmas.Bool.{cases_lt}
-use Rattle.std.proofs.lemmas.List.{get_or_past, get_or-map, get_or-take, length-map, length-take, take_all}
+use Rattle.std.proofs.lemmas.List.{get_or_past, get_or-take, length-map, length-take}
 use Rattle.std.proofs.lemmas.List.Elements.{All-contains, All-map, Contains-get_or}
 use Rattle.label_graph.specs.declared.parts.Piece.{Piece}
 use Rattle.label_graph.specs.declared.parts.Mark.{Mark}
@@ -10,7 +10,7 @@ use Rattle.label_graph.specs.declared.parts.Mark.TheVariants.{Loss, Piece as Car
 use Rattle.label_graph.specs.declared.parts.GraphArc.{GraphArc}
 use Rattle.label_graph.specs.Graph.{GraphValue, label_of, mark_weight, weight_in}
 use Rattle.label_graph.specs.Heaviest.{IsGreatestWeight}
-use Rattle.label_graph.specs.Cuts.{IsPadded, cut_piece, cut_labels, cut_graph}
+use Rattle.label_graph.specs.Cuts.{IsPadded, cut_labels, cut_graph}
 use Rattle.label_graph.specs.ImageLaws.{CutsKeepImages}
 use Rattle.label_graph.proofs.CutPaths.{cut-greatest, cut-label}
 use Rattle.final_compress.specs.FinalGraphs.{IsSourceLabel, AreSourceLabels}

@@ -1,5 +1,5 @@
 -- Members of lists, and of what a function gives of them.
-use Rattle.std.proofs.Common.{◌≡◌, ℕ, zero, suc, ◌<◌, ◌⊎◌, List, [], ◌∷◌, length, get_or, take, map, refl, sym, ap, ◌∙◌, subst, inl, inr, ⊎_elim, Option, Some, None, min, arith}
+use Rattle.std.proofs.Common.{◌≡◌, ℕ, ◌<◌, ◌⊎◌, List, [], ◌∷◌, length, get_or, take, map, sym, ap, ◌∙◌, subst, inl, inr, ⊎_elim, Option, Some, None, min, arith}
 use Rattle.std.proofs.lemmas.List.{length-take, get_or-take}
 use Rattle.std.specs.Prelude.{Contains}
 pub use Rattle.label_graph.proofs.Members.{contains_cons, contains_here, contains_there, contains_nothing}

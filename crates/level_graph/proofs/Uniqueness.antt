@@ -1,11 +1,8 @@
 -- There is but one level graph: lists in order with the same members are equal.
-use Rattle.std.proofs.Common.{◌≡◌, ℕ, suc, ◌<◌, List, [], ◌∷◌, length, get_or, refl, sym, ◌∙◌, subst, ⊎_elim, arith}
-use Rattle.std.specs.Prelude.{Contains, AllPairs}
+use Rattle.std.proofs.Common.{◌≡◌, ℕ, List, sym, subst}
 use Rattle.label_graph.specs.declared.parts.GraphArc.{GraphArc}
 use Rattle.label_graph.specs.declared.parts.Piece.{Piece}
-use Rattle.label_graph.specs.declared.parts.Mark.{Mark}
-use Rattle.label_graph.specs.declared.parts.Mark.TheVariants.{Loss, Piece as Carries}
-use Rattle.label_graph.specs.Graph.{ArcBefore, MarkBefore}
+use Rattle.label_graph.specs.Graph.{ArcBefore}
 use Rattle.level_graph.specs.declared.states.State.{State}
 use Rattle.level_graph.specs.Levels.{StateBefore, IsLevels, IsStepArc}
 use Rattle.label_graph.proofs.OneImage.{same-list, arc-one_way}

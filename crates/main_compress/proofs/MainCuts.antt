@@ -1,16 +1,13 @@
 -- Zeros behind all weights change nothing of a main graph.
-use Rattle.std.proofs.Common.{◌≡◌, ℕ, zero, suc, ◌-◌, ◌<◌, ◌≤◌, List, [], ◌∷◌, length, get_or, take, map, refl, sym, ap, ◌∙◌, subst, arith}
+use Rattle.std.proofs.Common.{◌≡◌, ℕ, ◌≤◌, List, length, get_or, take, sym, ◌∙◌, subst, arith}
 use Rattle.std.specs.Prelude.{All}
-use Rattle.std.proofs.lemmas.List.{get_or-map, get_or-take, length-map, length-take, take_all}
+use Rattle.std.proofs.lemmas.List.{get_or-take, length-map, length-take}
 use Rattle.std.proofs.lemmas.List.Elements.{All-contains, All-weaker, Contains-get_or}
 use Rattle.weight_vec.specs.Weight.{AtMost}
 use Rattle.label_graph.specs.declared.parts.Piece.{Piece}
-use Rattle.label_graph.specs.declared.parts.Mark.{Mark}
-use Rattle.label_graph.specs.declared.parts.Mark.TheVariants.{Loss, Piece as Carries}
-use Rattle.label_graph.specs.declared.parts.GraphArc.{GraphArc}
-use Rattle.label_graph.specs.Graph.{GraphValue, label_of, mark_weight, weight_in}
+use Rattle.label_graph.specs.Graph.{GraphValue, label_of}
 use Rattle.label_graph.specs.Heaviest.{IsGreatestWeight}
-use Rattle.label_graph.specs.Cuts.{IsPadded, cut_piece, cut_labels, cut_graph}
+use Rattle.label_graph.specs.Cuts.{IsPadded, cut_labels, cut_graph}
 use Rattle.label_graph.specs.ImageLaws.{CutsKeepImages}
 use Rattle.label_graph.proofs.CutPaths.{cut-greatest, cut-label}
 use Rattle.main_compress.specs.MainGraphs.{IsTargetLabel, AreTargetLabels}

@@ -1,4 +1,4 @@
-use Rattle.std.proofs.Common.{◌≡◌, ◌∙◌, ◌≤◌, ◌+◌, ◌-◌, ℕ, List, [], ◌++◌, ◌∷◌, sym, subst, arith, rules}
+use Rattle.std.proofs.Common.{◌+◌, ◌-◌, ℕ, List, [], ◌++◌, ◌∷◌, sym, subst, arith}
 use Rattle.arc_num.specs.declared.TheConstants.{MAX_ARCS}
 use Rattle.flow_graph.specs.Arcs.{TypeValue}
 use Rattle.arc_compile.specs.declared.compiled.TypeSize.{TypeSize}

@@ -1,5 +1,3 @@
-use Rattle.std.proofs.Common.{◌≡◌, ℕ, ◌+◌, ◌-◌, ◌≤◌, ◌<◌, take, length}
-use Rattle.arc_num.specs.declared.TheConstants.{MAX_ARCS}
 use Rattle.arc_compile.proofs.TypesSoFar.{AreCompiledSoFar}
 use Rattle.arc_compile.proofs.all_types.compiled.Given as goal
 

@@ -1,6 +1,4 @@
-use Rattle.std.proofs.Common.{◌≡◌, ◌∙◌, List, sym, subst, arith, rules}
-use Rattle.label_graph.specs.declared.parts.Piece.{Piece}
-use Rattle.arc_compile.specs.Compiled.{AreNamed}
+use Rattle.std.proofs.Common.{arith, rules}
 use Rattle.arc_compile.proofs.NamedPieces.{named_pieces}
 use Rattle.arc_compile.proofs.types.compiled_type.Goals as goal
 

@@ -1,4 +1,4 @@
-use Rattle.std.proofs.Common.{◌≡◌, ◌≤◌, ℕ, List, length, sym, subst, arith, rules}
+use Rattle.std.proofs.Common.{ℕ, List, length, sym, subst, arith, rules}
 use Rattle.label_graph.specs.declared.parts.Piece.{Piece}
 use Rattle.flow_graph.specs.Arcs.{IsFlowType}
 use Rattle.label_graph.proofs.Fewer.{image-arcs}
