@@ -1,1 +1,2 @@
 pub mod ArcsKnown
+pub mod RowLists
