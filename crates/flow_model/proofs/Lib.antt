@@ -1,2 +1,3 @@
 pub mod ArcsKnown
 pub mod RowLists
+pub mod TallySums

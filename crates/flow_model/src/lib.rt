@@ -9,6 +9,7 @@ mod listed;
 mod models;
 mod places;
 mod programs;
+mod tallies;
 #[cfg(test)]
 mod tests;
 
@@ -17,3 +18,4 @@ pub use flows::{Flow, FlowRow};
 pub use listed::Listed;
 pub use models::program_of;
 pub use programs::{Column, Entry, Name, Program, Row, RowKind};
+pub use tallies::Tally;
