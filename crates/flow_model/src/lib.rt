@@ -3,6 +3,7 @@
 #![tactic(auto)]
 
 mod boxes;
+mod checks;
 mod flows;
 mod known;
 mod listed;
@@ -14,6 +15,7 @@ mod tallies;
 mod tests;
 
 pub use boxes::{FlowBox, root_box};
+pub use checks::{first_bad, is_flow};
 pub use flows::{Flow, FlowRow};
 pub use listed::Listed;
 pub use models::program_of;
