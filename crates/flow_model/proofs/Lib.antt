@@ -6,3 +6,4 @@ pub mod BrokenRows
 pub mod Counts
 pub mod Ways
 pub mod PackedFlows
+pub mod Solutions
