@@ -1,0 +1,15 @@
+//! What holds of all models. Each function is empty: a call brings its law in as a fact.
+
+ghost use Rattle.flow_model.specs.Models.{SolutionsAreFlows};
+ghost use Rattle.flow_model.specs.Packed.{PackingsAreFlows};
+
+/// The solutions of the program of a model are the flows, and its objective is what the bins cost.
+pub fn solutions_are_flows()
+    ensures { SolutionsAreFlows }
+{}
+
+/// Each packing without empty bins is a flow of the same cost on each faithful graph: the sum of one path for each bin,
+/// with what is in the bin.
+pub fn packings_are_flows()
+    ensures { PackingsAreFlows }
+{}
