@@ -1,0 +1,9 @@
+//! Linear programs in whole numbers as MPS text, both ways.
+#![tactic(auto)]
+
+mod faults;
+mod rows;
+mod stages;
+
+pub use faults::{MpsCause, MpsFault};
+pub use rows::rows_are_worked;
