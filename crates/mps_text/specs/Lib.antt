@@ -2,3 +2,4 @@ pub mod Written
 pub mod Lines
 pub mod Meaning
 pub mod Worked
+pub mod Laws

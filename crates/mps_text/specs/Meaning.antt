@@ -1,5 +1,5 @@
 -- What a text means: the program that it spells, or the first line at fault with its first cause.
-use Rattle.std.specs.Prelude.{ℕ, zero, suc, ◌+◌, ◌-◌, ◌^◌, Bool, true, false, ◌&&◌, ◌||◌, not, ◌==◌, nat_le, if◌then◌else◌, ℤ, pos, negsuc, neg_ℤ, List, [], ◌∷◌, ◌++◌, length, map, filter, take, drop, position, Option, Some, None, is_some, is_none, option_map, unwrap_or, option_to_list, option_and_then, Result, Ok, Err, codes, bytes_eq}
+use Rattle.std.specs.Prelude.{ℕ, zero, suc, ◌+◌, ◌-◌, ◌^◌, Bool, true, false, ◌&&◌, ◌||◌, not, ◌==◌, nat_le, if◌then◌else◌, ℤ, pos, negsuc, neg_ℤ, List, [], ◌∷◌, ◌++◌, length, map, filter, take, drop, set, slice_get, position, Option, Some, None, is_some, is_none, option_map, unwrap_or, option_to_list, option_and_then, Result, Ok, Err, codes, bytes_eq}
 use Rattle.std.specs.List.{list_all, list_any}
 use Rattle.arc_num.specs.Decimals.{are_digits, value_of}
 use Rattle.flow_model.specs.declared.programs.RowKind.{RowKind}
@@ -107,11 +107,9 @@ abbrev pub each_in : {A : Type 0} → (List ℕ → Option A) → List (List ℕ
 each_in f [] = Some []
 each_in f (field ∷ fields) = onto_some (f field) (each_in f fields)
 
--- the list with a change of its element at place i, from 0; none where the element can't be changed so
+-- the list with a change of its element at place i, from 0; none where there is none or it can't be changed so
 abbrev pub change_at : {A : Type 0} → ℕ → (A → Option A) → List A → Option (List A)
-change_at i f [] = None
-change_at zero f (x ∷ xs) = option_map (λ y. y ∷ xs) (f x)
-change_at (suc i) f (x ∷ xs) = option_map (λ ys. x ∷ ys) (change_at i f xs)
+change_at i f xs = option_map (λ y. set xs i y) (option_and_then f (slice_get xs i))
 
 -- the same for changes at some places, one after the other
 abbrev pub change_each : {A B : Type 0} → (B → A → Option A) → List ℕ → List B → List A → Option (List A)
@@ -239,10 +237,12 @@ abbrev pub new_column : List ℕ → ReadColumn
 new_column name = record { name = name; cost = None; entries = []; fixed = None; lower = None; upper = None }
 
 -- the columns with the one that a line names at their end: it stands there, or it is new and its name keeps the rules
+abbrev pub columns_ending : List ℕ → List ReadColumn → Option ℕ → Option (List ReadColumn)
+columns_ending name columns None = if is_name name then Some (columns ++ new_column name ∷ []) else None
+columns_ending name columns (Some place) = if place + 1 == length columns then Some columns else None
+
 abbrev pub columns_with : List ℕ → List ReadColumn → Option (List ReadColumn)
-columns_with name columns = elim (place_of name (column_names columns)) as (λ found. Option (List ReadColumn)) [
-    None ↦ if is_name name then Some (columns ++ new_column name ∷ []) else None
-    | Some i ↦ if i + 1 == length columns then Some columns else None ]
+columns_with name columns = columns_ending name columns (place_of name (column_names columns))
 
 -- the last column takes what a line gives
 abbrev pub column_line : Reading → List ℕ → List (List ℕ) → List (List ℕ) → Judged

@@ -2,10 +2,10 @@
 #![tactic(auto)]
 
 mod faults;
-mod rows;
+mod laws;
 mod stages;
 mod write;
 
 pub use faults::{MpsCause, MpsFault};
-pub use rows::rows_are_worked;
+pub use laws::{rows_are_worked, written_is_read};
 pub use write::write_mps;
