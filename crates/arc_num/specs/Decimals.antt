@@ -1,5 +1,5 @@
 -- Numbers in decimal digits.
-use Rattle.std.specs.Prelude.{ℕ, ◌+◌, ◌-◌, ◌*◌, ◌^◌, Bool, ◌&&◌, not, ◌==◌, nat_lt, if◌then◌else◌, List, [], ◌∷◌, length, Option, Some, None}
+use Rattle.std.specs.Prelude.{ℕ, suc, ◌+◌, ◌-◌, ◌*◌, ◌^◌, Bool, ◌&&◌, not, ◌==◌, nat_lt, if◌then◌else◌, List, [], ◌∷◌, length, ◌++◌, Option, Some, None, ℤ, pos, negsuc, codes, decimal}
 use Rattle.std.specs.List.{list_all}
 use Rattle.std.specs.Char.{is_ascii_digit}
 
@@ -15,3 +15,8 @@ value_of (c ∷ cs) = (c - 48) * 10 ^ length cs + value_of cs
 -- the value of the digits, where it is below 2^64
 abbrev pub number_of : List ℕ → Option ℕ
 number_of bs = if are_digits bs && nat_lt (value_of bs) (2 ^ 64) then Some (value_of bs) else None
+
+-- the decimal text of a signed number: a minus sign stands before a number below 0
+abbrev pub signed_decimal : ℤ → List ℕ
+signed_decimal (pos n) = decimal n
+signed_decimal (negsuc n) = codes "-" ++ decimal (suc n)

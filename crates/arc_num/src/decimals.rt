@@ -3,7 +3,7 @@
 ghost use Rattle.std.specs.Prelude.{◌≡◌, ℕ, ◌+◌, ◌<◌, ◌++◌, OnOk, OnErr, decimal};
 ghost use Rattle.std.specs.List.{list_all};
 ghost use Rattle.std.specs.Char.{is_ascii_digit};
-ghost use Rattle.arc_num.specs.Decimals.{are_digits, number_of};
+ghost use Rattle.arc_num.specs.Decimals.{are_digits, number_of, signed_decimal};
 
 use crate::Memory;
 use itoa::Buffer;
@@ -47,5 +47,16 @@ pub fn push_number(out: &mut Vec<u8>, n: u128) -> Result<(), Memory>
 {
     let mut buffer = Buffer::new();
     out.extend_from_slice(buffer.format(n).as_bytes())?;
+    Ok(())
+}
+
+/// Appends the decimal text of a number, with `-` before a negative one.
+pub fn push_signed(out: &mut Vec<u8>, n: i64) -> Result<(), Memory>
+    ensures ok { OnOk result (out.new.items ≡ out.old.items ++ signed_decimal n) }
+    ensures err { OnErr result (out.new.items ≡ out.old.items) }
+{
+    let mut buffer = Buffer::new();
+    let text = buffer.format(n);
+    out.extend_from_slice(text.as_bytes())?;
     Ok(())
 }

@@ -7,7 +7,7 @@ use thiserror::Error;
 mod decimals;
 mod words;
 
-pub use decimals::{is_digits, number, push_number};
+pub use decimals::{is_digits, number, push_number, push_signed};
 pub use words::{Token, Tokens, tokens_are_the_longest_runs};
 
 /// Dimensions of an instance, at most; at least 1.

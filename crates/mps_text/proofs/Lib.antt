@@ -1,0 +1,9 @@
+pub mod Texts
+pub mod Values
+pub mod Fields
+pub mod Names
+pub mod Rows
+pub mod Changes
+pub mod Columns
+pub mod Sides
+pub mod Written

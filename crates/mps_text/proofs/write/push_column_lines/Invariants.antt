@@ -1,0 +1,6 @@
+use Rattle.std.proofs.Common.{◌≡◌, ◌++◌, map, flat_map, take}
+use Rattle.mps_text.specs.Written.{joined, row_line, entry_line, column_lines, right_lines, bound_lines}
+use Rattle.mps_text.proofs.write.push_column_lines.Given as goal
+
+abbrev pub invariant-loop-column : goal.invariant-loop-column
+invariant-loop-column l = l.out.items ≡ l.fn.out.items ++ joined (flat_map (column_lines l.program) (take l.column-index l.program.columns))

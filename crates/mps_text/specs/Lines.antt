@@ -1,0 +1,45 @@
+-- The lines of a text, and the fields of a line.
+use Rattle.std.specs.Prelude.{ℕ, Bool, true, false, ◌&&◌, ◌||◌, ◌==◌, if◌then◌else◌, List, [], ◌∷◌}
+use Rattle.std.specs.List.{list_all}
+use Rattle.arc_num.specs.Words.{is_white, onto_first}
+
+-- whether the text begins with a line feed
+abbrev pub is_at_feed : List ℕ → Bool
+is_at_feed [] = false
+is_at_feed (b ∷ bs) = b == 10
+
+-- the lines of a text, each without its line feed and without a carriage return directly before it; the last may lack its
+-- line feed
+abbrev pub lines_of : List ℕ → List (List ℕ)
+lines_of [] = []
+lines_of (b ∷ bs) =
+    if b == 10 then [] ∷ lines_of bs
+    else (if (b == 13) && is_at_feed bs then lines_of bs else onto_first b (lines_of bs))
+
+-- the bytes between fields: space and tab
+abbrev pub parts_fields : ℕ → Bool
+parts_fields b = (b == 32) || (b == 9)
+
+-- whether a field that stands in front of this text ends there
+abbrev pub ends_field : List ℕ → Bool
+ends_field [] = true
+ends_field (b ∷ bs) = parts_fields b
+
+-- the fields of a line: its longest runs of bytes that are neither space nor tab
+abbrev pub fields_of : List ℕ → List (List ℕ)
+fields_of [] = []
+fields_of (b ∷ bs) = if parts_fields b then fields_of bs else (if ends_field bs then (b ∷ []) ∷ fields_of bs else onto_first b (fields_of bs))
+
+-- whether a line begins with a space or a tab
+abbrev pub is_indented : List ℕ → Bool
+is_indented [] = false
+is_indented (b ∷ bs) = parts_fields b
+
+-- whether a line is a comment
+abbrev pub is_comment : List ℕ → Bool
+is_comment [] = false
+is_comment (b ∷ bs) = b == 42
+
+-- whether a line counts for nothing: it is empty or white space, or a comment
+abbrev pub is_skipped : List ℕ → Bool
+is_skipped line = list_all is_white line || is_comment line

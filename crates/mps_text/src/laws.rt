@@ -1,0 +1,16 @@
+//! Laws about the texts of programs, as the contracts of functions that do nothing.
+
+ghost use Rattle.mps_text.specs.Worked.{Rows};
+ghost use Rattle.mps_text.specs.Laws.{WrittenIsRead};
+
+/// Texts that are worked by hand mean what they should.
+pub fn rows_are_worked()
+    ensures { Rows }
+{
+}
+
+/// What is written for a program that keeps the rules means this program.
+pub fn written_is_read()
+    ensures { WrittenIsRead }
+{
+}

@@ -1,0 +1,11 @@
+//! Linear programs in whole numbers as MPS text, both ways.
+#![tactic(auto)]
+
+mod faults;
+mod laws;
+mod stages;
+mod write;
+
+pub use faults::{MpsCause, MpsFault};
+pub use laws::{rows_are_worked, written_is_read};
+pub use write::write_mps;
