@@ -14,8 +14,11 @@ use arc_num::Memory;
 use packing_laws::{Bin, BinType, Count, Counts, Instance, Packing};
 use std::alloc::Global;
 
-/// In how many ways a bin of a type is filled, to take the best.
-const TRIES: usize = 8;
+/// In how many ways a bin of a type is filled at most, to take the best.
+const MOST_TRIES: usize = 8;
+
+/// How many pieces may be looked at for one bin, before it is filled in fewer ways.
+const MOST_STEPS: usize = 65_536;
 
 /// A packing that is filled bin by bin. None where some units are left that fit no free bin.
 pub(crate) fn greedy_packing(alloc: Global, instance: &Instance) -> Result<Option<Packing>, Memory>
@@ -96,13 +99,16 @@ fn best_bin(
     let mut best = None;
     for (at, bin_type) in instance.types().iter().enumerate() {
         if free[at] > 0 {
-            best = best_of_type(alloc, instance, pieces, rest, at as u32 + 1, bin_type, best)?;
+            let number = at as u32 + 1;
+            if let Some(bin) = best_of_type(alloc, instance, pieces, rest, number, bin_type)? {
+                best = better(best, bin);
+            }
         }
     }
     Ok(best)
 }
 
-/// The best of some fillings of a bin of a type, and of one that was found before.
+/// The best of some fillings of a bin of a type. Each starts with a unit of the first piece, and skips some pieces.
 fn best_of_type(
     alloc: Global,
     instance: &Instance,
@@ -110,24 +116,30 @@ fn best_of_type(
     rest: &[u32],
     number: u32,
     bin_type: &BinType,
-    before: Option<Filling>,
 ) -> Result<Option<Filling>, Memory>
     requires pieces { All (IsPiece instance.now) pieces.now }
     requires rest { length rest.now ≡ length instance.now.items }
     requires among { IsAmong number (length instance.now.types) }
     requires bin_type { bin_type.now ≡ type_at instance.now number }
     requires known { IsBinType instance.now.dims bin_type.now }
-    requires before { IfSome before (IsFilling instance.now rest.now) }
     ensures { IfOk result (λ b. IfSome b (IsFilling instance.now rest.now)) }
 {
-    let mut best = before;
-    for skipped in 0..TRIES.min(pieces.len()) {
+    let mut best = None;
+    for skipped in 0..tries(instance.types().len(), pieces.len()) {
         let mut bin = empty_bin(alloc, instance, number, bin_type)?;
         add(&mut bin, instance, rest, &pieces[0], 1)?;
         fill(&mut bin, instance, rest, &pieces[skipped..])?;
         best = better(best, bin);
     }
     Ok(best)
+}
+
+/// In how many ways a bin of each type is filled.
+fn tries(types: usize, pieces: usize) -> usize
+    ensures { result ≤ pieces }
+{
+    let steps = types.saturating_mul(pieces).max(1);
+    (MOST_STEPS / steps).min(MOST_TRIES).max(1).min(pieces)
 }
 
 /// Puts as many units of each piece in turn into the bin as there is room for.

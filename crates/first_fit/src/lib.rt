@@ -6,5 +6,7 @@ mod first;
 mod greedy;
 mod pieces;
 mod stock;
+#[cfg(test)]
+mod tests;
 
 pub use first::first_fit;
