@@ -39,7 +39,7 @@ positive_term f (x ∷ xs) some = elim (cases_lt 0 (f x)) [
 ]
 
 -- a unit of item i
-is_unit : (i : ℕ) (n : Count) → 0 < cond (n.item == i) n.count 0 → (n.item ≡ i) × (0 < n.count)
+pub is_unit : (i : ℕ) (n : Count) → 0 < cond (n.item == i) n.count 0 → (n.item ≡ i) × (0 < n.count)
 is_unit i n some = elim (cases_Bool (n.item == i)) [
   | inl same ↦ (eqb-true n.item i same, rw (cond-true (n.item == i) n.count 0 same) at some)
   | inr other ↦ absurd (let none : 0 < 0 = rw (cond-false (n.item == i) n.count 0 other) at some in omega arith)

@@ -4,7 +4,7 @@ use std::alloc::Global;
 use std::marker::Model;
 
 /// So many units of a form of an item. Items and forms are numbered from 1.
-#[derive(Clone, Copy, Debug, PartialEq, Eq, PartialOrd, Ord)]
+#[derive(Clone, Copy, Debug, Default, PartialEq, Eq, PartialOrd, Ord)]
 pub struct Count {
     pub item: u32,
     pub form: u32,

@@ -1,0 +1,4 @@
+pub mod TakenUnits
+pub mod FilledBins
+pub mod Repeats
+pub mod Packed

@@ -1,0 +1,11 @@
+-- A packing is under way.
+use Rattle.std.proofs.Common.{All}
+use Rattle.first_fit.specs.Fillings.{IsPiece}
+use Rattle.first_fit.specs.Stages.{IsStage}
+use Rattle.first_fit.proofs.greedy.pack.Given as goal
+
+abbrev pub invariant-loop-turn : goal.invariant-loop-turn
+invariant-loop-turn l = record {
+  pieces : All (IsPiece l.instance) l.pieces.items;
+  stage : IsStage l.instance l.rest l.free l.bins.items;
+}

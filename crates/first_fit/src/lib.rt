@@ -1,0 +1,12 @@
+//! A first packing of an instance: bins are filled greedily, from the largest piece on.
+#![tactic(auto)]
+
+mod filling;
+mod first;
+mod greedy;
+mod pieces;
+mod stock;
+#[cfg(test)]
+mod tests;
+
+pub use first::first_fit;
