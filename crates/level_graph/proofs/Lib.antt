@@ -13,3 +13,7 @@ pub mod Counting
 pub mod Uniqueness
 pub mod Leading
 pub mod Choices
+pub mod UsedWeights
+pub mod LevelGraphs
+pub mod CutWeights
+pub mod CutLevels

@@ -1,10 +1,12 @@
 -- Laws of level graphs: the contents of their paths, and that there is but one.
-use Rattle.std.specs.Prelude.{◌≡◌, ℕ, ◌+◌, ◌*◌, ◌≤◌, ◌<◌, List, [], ◌∷◌, length, slice_index}
+use Rattle.std.specs.Prelude.{◌≡◌, ℕ, ◌+◌, ◌*◌, ◌≤◌, ◌<◌, List, [], ◌∷◌, All, length, map, slice_index, take}
 use Rattle.label_graph.specs.declared.parts.GraphArc.{GraphArc}
 use Rattle.label_graph.specs.declared.parts.Piece.{Piece}
-use Rattle.label_graph.specs.Graph.{IsPath, IsContent}
+use Rattle.weight_vec.specs.Weight.{AtMost, IsInRange}
+use Rattle.label_graph.specs.Graph.{GraphValue, IsGraph, IsPath, IsContent}
+use Rattle.label_graph.specs.Cuts.{IsPadded, IsPaddedGraph, cut_piece, cut_graph}
 use Rattle.level_graph.specs.declared.states.State.{State}
-use Rattle.level_graph.specs.Levels.{piece_copies, IsLevels}
+use Rattle.level_graph.specs.Levels.{IsPieceList, IsLevelGraph, piece_copies, IsLevels}
 
 -- what so many copies of each piece weigh in a dimension
 abbrev pub content_weight : {N : ℕ} → List (Piece N) → ℕ → List ℕ → ℕ
@@ -42,3 +44,27 @@ ChoicesHaveOnePath = (N : ℕ) (pieces : List (Piece N)) (cap : List ℕ) (state
 -- there is but one level graph
 abbrev pub LevelsAreOne : Type 0
 LevelsAreOne = (N : ℕ) (pieces : List (Piece N)) (cap : List ℕ) (states others : List (State N)) (arcs more : List GraphArc) → IsLevels pieces cap states arcs → IsLevels pieces cap others more → (states ≡ others) × (arcs ≡ more)
+
+-- what is asked of the weights of pieces and of the capacity: as many places as the graph has, and numbers in range
+pub record AreWeighed {N : ℕ} (pieces : List (Piece N)) (cap : List ℕ) : Type 0 where
+  pub small : N ≤ 32
+  pub sized : length cap ≡ N
+  pub ranged : IsInRange cap
+  pub pieces_sized : All (λ q. length q.weight ≡ N) pieces
+  pub pieces_ranged : All (λ q. IsInRange q.weight) pieces
+
+-- the level graph is a graph, whose labels fit the capacity
+pub record IsGraphWithin {N : ℕ} (cap : List ℕ) (g : GraphValue N) : Type 0 where
+  pub graph : IsGraph N g
+  pub fits : All (λ l. AtMost l cap) g.labels
+
+abbrev pub LevelGraphsAreGraphs : Type 0
+LevelGraphsAreGraphs = (N : ℕ) (pieces : List (Piece N)) (cap : List ℕ) (g : GraphValue N) → IsPieceList pieces cap → AreWeighed pieces cap → IsLevelGraph pieces cap g → IsGraphWithin cap g
+
+-- zeros behind all weights and the capacity change nothing of a level graph, and stand behind its labels too
+pub record CutsKeepLevel (N n : ℕ) (pieces : List (Piece N)) (cap : List ℕ) (g : GraphValue N) : Type 0 where
+  pub padded : IsPaddedGraph n g
+  pub cut : IsLevelGraph (map (cut_piece n) pieces) (take n cap) (cut_graph n g)
+
+abbrev pub CutsKeepLevelGraphs : Type 0
+CutsKeepLevelGraphs = (N n : ℕ) (pieces : List (Piece N)) (cap : List ℕ) (g : GraphValue N) → n ≤ N → IsPieceList pieces cap → AreWeighed pieces cap → All (λ q. IsPadded n q.weight) pieces → IsPadded n cap → IsLevelGraph pieces cap g → CutsKeepLevel N n pieces cap g

@@ -2,7 +2,10 @@ ghost use Rattle.std.specs.Prelude.{◌≡◌, ◌+◌, ◌≤◌, IsTrue};
 ghost use Rattle.weight_vec.specs.Weight.{AtMost, IsZero};
 ghost use Rattle.level_graph.specs.Levels.{IsPieceList};
 
-use crate::{choices_have_one_path, level_counts, levels, levels_are_one, paths_are_choices};
+use crate::{
+    choices_have_one_path, cuts_keep_level_graphs, level_counts, level_graphs_are_graphs, levels,
+    levels_are_one, paths_are_choices,
+};
 use arc_num::MAX_ALL_FORMS;
 use label_graph::{Graph, Piece};
 use std::alloc::Global;
@@ -125,4 +128,6 @@ fn laws_hold() {
     paths_are_choices();
     choices_have_one_path();
     levels_are_one();
+    level_graphs_are_graphs();
+    cuts_keep_level_graphs();
 }
