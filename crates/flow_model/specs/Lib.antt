@@ -1,1 +1,6 @@
 pub mod Programs
+pub mod Boxes
+pub mod Flows
+pub mod Models
+pub mod Packed
+pub mod Places

@@ -2,12 +2,18 @@
 //! columns.
 #![tactic(auto)]
 
+mod boxes;
 mod flows;
+mod known;
 mod listed;
+mod models;
+mod places;
 mod programs;
 #[cfg(test)]
 mod tests;
 
+pub use boxes::{FlowBox, root_box};
 pub use flows::{Flow, FlowRow};
 pub use listed::Listed;
+pub use models::program_of;
 pub use programs::{Column, Entry, Name, Program, Row, RowKind};

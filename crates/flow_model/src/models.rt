@@ -1,0 +1,212 @@
+//! The program of an instance over its numbered arcs.
+
+ghost use Rattle.std.specs.Prelude.{◌≡◌, ◌+◌, ◌<◌, ◌≤◌, ◌^◌, ◌++◌, ℕ, IfOk, length, map, codes, All, pos, sum_by};
+ghost use Rattle.packing_laws.specs.Instances.{units_of};
+ghost use Rattle.flow_graph.specs.Faithful.{GraphOf};
+ghost use Rattle.flow_model.specs.Flows.{up_to, arc_cost};
+ghost use Rattle.flow_model.specs.Places.{AreStarts, IsArcOf, NamesType, GraphKnown};
+ghost use Rattle.flow_model.specs.Models.{node_name as node_name_of, item_name as item_name_of, arc_name as arc_name_of, node_row, item_row, model_rows, moves as moves_of, entries_of, item_place, arc_column, model_columns, program_of_model};
+
+use crate::boxes::upper;
+use crate::known::graph_known;
+use crate::listed::Listed;
+use crate::places::{node_place, node_starts};
+use crate::programs::{Column, Entry, Name, Program, Row, RowKind};
+use arc_num::{MAX_ITEMS, Memory, push_number};
+use flow_graph::{ArcKind, FlowGraph};
+use packing_laws::Instance;
+use std::alloc::Global;
+
+/// The program: a row for each node and each item, and a column for each arc.
+pub fn program_of(
+    alloc: Global,
+    graph: &FlowGraph,
+    instance: &Instance,
+) -> Result<Program, Memory>
+    requires { GraphOf instance.now graph.now }
+    ensures { IfOk result (λ program. program ≡ program_of_model instance.now graph.now) }
+{
+    let rows = rows(alloc, graph, instance)?;
+    let columns = columns(alloc, graph, instance)?;
+    let objective = Vec::from_slice(alloc, b"COST")?;
+    Ok(Program {
+        objective: Listed::new(objective),
+        rows: Listed::new(rows),
+        columns: Listed::new(columns),
+    })
+}
+
+fn rows(alloc: Global, graph: &FlowGraph, instance: &Instance) -> Result<Vec<Row>, Memory>
+    ensures { IfOk result (λ rows. rows.items ≡ model_rows instance.now graph.now) }
+{
+    let mut rows = Vec::new(alloc);
+    for t in 0..graph.type_count() {
+        if let Some(nodes) = graph.node_count(t + 1) {
+            push_node_rows(&mut rows, t + 1, nodes)?;
+        }
+    }
+    push_item_rows(&mut rows, instance)?;
+    Ok(rows)
+}
+
+// Appends the rows of the nodes of a type.
+fn push_node_rows(rows: &mut Vec<Row>, t: u32, nodes: u32) -> Result<(), Memory>
+    ensures { IfOk result (λ _. rows.new.items ≡ rows.old.items ++ map (node_row t) (up_to nodes)) }
+{
+    let alloc = *rows.allocator();
+    for node in 0..nodes {
+        rows.push(Row {
+            name: node_name(alloc, t, node + 1)?,
+            kind: RowKind::Equal,
+            right: 0,
+        })?;
+    }
+    Ok(())
+}
+
+// Appends the rows of the items.
+fn push_item_rows(rows: &mut Vec<Row>, instance: &Instance) -> Result<(), Memory>
+    ensures { IfOk result (λ _. rows.new.items ≡ rows.old.items ++ map (item_row instance.now) (up_to (length instance.now.items))) }
+{
+    let alloc = *rows.allocator();
+    let mut number = 0;
+    for item in instance.items() {
+        number += 1;
+        rows.push(Row {
+            name: item_name(alloc, number)?,
+            kind: RowKind::Least,
+            right: i64::from(item.demand),
+        })?;
+    }
+    Ok(())
+}
+
+fn columns(alloc: Global, graph: &FlowGraph, instance: &Instance) -> Result<Vec<Column>, Memory>
+    requires { GraphOf instance.now graph.now }
+    ensures { IfOk result (λ columns. columns.items ≡ model_columns instance.now graph.now) }
+{
+    graph_known(instance, graph);
+    let starts = node_starts(alloc, graph)?;
+    let units = instance.units();
+    let row = graph.row();
+    let mut columns = Vec::with_capacity(alloc, row.len())?;
+    let mut number = 0;
+    for kind in row {
+        number += 1;
+        columns.push(Column {
+            name: arc_name(alloc, number, kind)?,
+            cost: cost(instance, kind),
+            entries: entries(alloc, &starts, graph, kind)?,
+            lower: 0,
+            upper: u64::from(upper(instance, units, kind)),
+        })?;
+    }
+    Ok(columns)
+}
+
+// The name of the row of a node: `N`, its type, `_` and its number.
+fn node_name(alloc: Global, t: u32, node: u32) -> Result<Name, Memory>
+    ensures { IfOk result (λ name. name ≡ node_name_of t node) }
+{
+    let mut text = Vec::new(alloc);
+    text.push(b'N')?;
+    push_number(&mut text, u128::from(t))?;
+    text.push(b'_')?;
+    push_number(&mut text, u128::from(node))?;
+    Ok(Listed::new(text))
+}
+
+// The name of the row of an item: `D` and its number.
+fn item_name(alloc: Global, item: u32) -> Result<Name, Memory>
+    ensures { IfOk result (λ name. name ≡ item_name_of item) }
+{
+    let mut text = Vec::new(alloc);
+    text.push(b'D')?;
+    push_number(&mut text, u128::from(item))?;
+    Ok(Listed::new(text))
+}
+
+// The name of the column of an arc: `Z` for a bin arc and `F` for any other, and its number.
+fn arc_name(alloc: Global, number: u32, kind: &ArcKind) -> Result<Name, Memory>
+    ensures { IfOk result (λ name. name ≡ arc_name_of number kind.now) }
+{
+    let letter = match *kind {
+        ArcKind::Bin { .. } => b'Z',
+        ArcKind::Loss { .. } | ArcKind::Piece { .. } => b'F',
+    };
+    let mut text = Vec::new(alloc);
+    text.push(letter)?;
+    push_number(&mut text, u128::from(number))?;
+    Ok(Listed::new(text))
+}
+
+// What a unit on an arc costs.
+fn cost(instance: &Instance, kind: &ArcKind) -> i64
+    requires { NamesType (length instance.now.types) kind.now }
+    ensures { result ≡ pos (arc_cost instance.now kind.now) }
+{
+    match *kind {
+        ArcKind::Bin { t } => match instance.bin_type(t) {
+            Some(bin_type) => i64::from(bin_type.cost),
+            None => 0,
+        },
+        ArcKind::Loss { .. } | ArcKind::Piece { .. } => 0,
+    }
+}
+
+// What a unit on an arc adds in the rows.
+fn entries(
+    alloc: Global,
+    starts: &[u32],
+    graph: &FlowGraph,
+    kind: &ArcKind,
+) -> Result<Listed<Entry>, Memory>
+    requires starts { AreStarts graph.now starts.now }
+    requires nodes { sum_by (λ x. x.nodes) graph.now ≤ 1000064 }
+    requires arc { IsArcOf MAX_ITEMS graph.now kind.now }
+    ensures { IfOk result (λ entries. entries ≡ entries_of graph.now kind.now) }
+{
+    let entries = match *kind {
+        ArcKind::Bin { t } => moves(alloc, starts[t as usize], node_place(starts, t, 1))?,
+        ArcKind::Loss { t, tail, head } => {
+            moves(alloc, node_place(starts, t, tail), node_place(starts, t, head))?
+        }
+        ArcKind::Piece {
+            t,
+            tail,
+            head,
+            item,
+            ..
+        } => {
+            let mut entries =
+                moves(alloc, node_place(starts, t, tail), node_place(starts, t, head))?;
+            entries.push(Entry {
+                row: starts[graph.type_count() as usize] + item,
+                value: 1,
+            })?;
+            entries
+        }
+    };
+    Ok(Listed::new(entries))
+}
+
+// A unit leaves one row and enters another, in the order of the rows.
+fn moves(alloc: Global, tail: u32, head: u32) -> Result<Vec<Entry>, Memory>
+    ensures { IfOk result (λ entries. entries.items ≡ moves_of tail head) }
+{
+    let leaves = Entry {
+        row: tail,
+        value: -1,
+    };
+    let enters = Entry {
+        row: head,
+        value: 1,
+    };
+    if tail == head {
+        Ok(Vec::new(alloc))
+    } else if tail < head {
+        Ok(Vec::from_slice(alloc, &[leaves, enters])?)
+    } else {
+        Ok(Vec::from_slice(alloc, &[enters, leaves])?)
+    }
+}

@@ -1,0 +1,36 @@
+//! Where the nodes of the types stand, all in one row.
+
+ghost use Rattle.std.specs.Prelude.{◌≡◌, ◌+◌, ◌-◌, ◌<◌, ◌≤◌, ◌^◌, IfOk, length, sum_by, slice_index};
+ghost use Rattle.flow_model.specs.Places.{AreStarts};
+
+use arc_num::Memory;
+use flow_graph::FlowGraph;
+use std::alloc::Global;
+
+/// How many nodes no type has, the first, the first two, and so on up to all types.
+pub(crate) fn node_starts(alloc: Global, graph: &FlowGraph) -> Result<Vec<u32>, Memory>
+    requires { sum_by (λ x. x.nodes) graph.now ≤ 1000064 }
+    ensures { IfOk result (λ starts. AreStarts graph.now starts.items) }
+{
+    let count = graph.type_count();
+    let mut starts = Vec::with_capacity(alloc, count as usize + 1)?;
+    let mut nodes = 0;
+    starts.push(nodes)?;
+    for t in 0..count {
+        if let Some(more) = graph.node_count(t + 1) {
+            nodes += more;
+        }
+        starts.push(nodes)?;
+    }
+    Ok(starts)
+}
+
+/// The place of a node of a type, from 1.
+pub(crate) fn node_place(starts: &[u32], t: u32, node: u32) -> u32
+    requires low { 1 ≤ t }
+    requires high { t ≤ length starts.now }
+    requires small { slice_index starts.now (t - 1) + node < 2 ^ 32 }
+    ensures { result ≡ slice_index starts.now (t - 1) + node }
+{
+    starts[t as usize - 1] + node
+}
