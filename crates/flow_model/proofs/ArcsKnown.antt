@@ -13,7 +13,7 @@ use Rattle.flow_graph.specs.declared.parts.ArcKind.TheVariants.{Bin, Loss, Piece
 use Rattle.flow_graph.specs.Arcs.{TypeValue, IsFlowType, IsFlowGraph, flow_type, kind_of, numbered, arc_at, first_arc, last_arc}
 use Rattle.flow_graph.specs.Faithful.{GraphOf, unit_of}
 use Rattle.packing_laws.proofs.Sums.{sum_to, sum_to-add, sum_to-one, sum_to-le}
-use Rattle.flow_graph.proofs.Numbers.{sum_by-bins}
+use Rattle.flow_graph.proofs.Numbers.{sum_by-bins, few_numbered}
 use Rattle.flow_graph.proofs.Places.{arc_at-suc, has_numbers, some_type}
 use Rattle.flow_model.specs.Places.{IsBetween, IsArcOf, NamesType, GraphKnown}
 
@@ -137,4 +137,5 @@ graph_known I g instance is of = record {
   types = All-weaker (IsArcOf (length I.items) g) (NamesType (length I.types)) (names_type I g is of) (numbered g) (arcs_known I g is of);
   sources = All-weaker IsFlowType (λ x. 1 ≤ x.nodes) (λ x own. own.source) g is.each;
   nodes = few_nodes g is;
+  row = few_numbered g is;
 }

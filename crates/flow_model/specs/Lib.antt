@@ -4,3 +4,4 @@ pub mod Flows
 pub mod Models
 pub mod Packed
 pub mod Places
+pub mod Tallies

@@ -31,6 +31,7 @@ pub record GraphKnown (I : InstanceValue) (g : List TypeValue) : Type 0 where
   pub types : All (NamesType (length I.types)) (numbered g)
   pub sources : All (λ x. 1 ≤ x.nodes) g
   pub nodes : sum_by (λ x. x.nodes) g ≤ 1000064
+  pub row : length (numbered g) ≤ 1000064
 
 -- for each number of types from 0 on, how many nodes the first of them have
 pub record AreStarts (g : List TypeValue) (starts : List ℕ) : Type 0 where

@@ -3,17 +3,21 @@
 #![tactic(auto)]
 
 mod boxes;
+mod checks;
 mod flows;
 mod known;
 mod listed;
 mod models;
 mod places;
 mod programs;
+mod tallies;
 #[cfg(test)]
 mod tests;
 
 pub use boxes::{FlowBox, root_box};
+pub use checks::{first_bad, is_flow};
 pub use flows::{Flow, FlowRow};
 pub use listed::Listed;
 pub use models::program_of;
 pub use programs::{Column, Entry, Name, Program, Row, RowKind};
+pub use tallies::Tally;

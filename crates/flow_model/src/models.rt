@@ -10,7 +10,7 @@ ghost use Rattle.flow_model.specs.Models.{node_name as node_name_of, item_name a
 use crate::boxes::upper;
 use crate::known::graph_known;
 use crate::listed::Listed;
-use crate::places::{node_place, node_starts};
+use crate::places::{node_count, node_place, node_starts};
 use crate::programs::{Column, Entry, Name, Program, Row, RowKind};
 use arc_num::{MAX_ITEMS, Memory, push_number};
 use flow_graph::{ArcKind, FlowGraph};
@@ -41,9 +41,7 @@ fn rows(alloc: Global, graph: &FlowGraph, instance: &Instance) -> Result<Vec<Row
 {
     let mut rows = Vec::new(alloc);
     for t in 0..graph.type_count() {
-        if let Some(nodes) = graph.node_count(t + 1) {
-            push_node_rows(&mut rows, t + 1, nodes)?;
-        }
+        push_node_rows(&mut rows, t + 1, node_count(graph, t + 1))?;
     }
     push_item_rows(&mut rows, instance)?;
     Ok(rows)
@@ -93,15 +91,35 @@ fn columns(alloc: Global, graph: &FlowGraph, instance: &Instance) -> Result<Vec<
     let mut number = 0;
     for kind in row {
         number += 1;
-        columns.push(Column {
-            name: arc_name(alloc, number, kind)?,
-            cost: cost(instance, kind),
-            entries: entries(alloc, &starts, graph, kind)?,
-            lower: 0,
-            upper: u64::from(upper(instance, units, kind)),
-        })?;
+        columns.push(column(alloc, instance, graph, &starts, units, number, kind)?)?;
     }
     Ok(columns)
+}
+
+// The column of the arc with this number.
+fn column(
+    alloc: Global,
+    instance: &Instance,
+    graph: &FlowGraph,
+    starts: &[u32],
+    units: u32,
+    number: u32,
+    kind: &ArcKind,
+) -> Result<Column, Memory>
+    requires starts { AreStarts graph.now starts.now }
+    requires nodes { sum_by (λ x. x.nodes) graph.now ≤ 1000064 }
+    requires units { units ≡ units_of instance.now }
+    requires arc { IsArcOf MAX_ITEMS graph.now kind.now }
+    requires bin_type { NamesType (length instance.now.types) kind.now }
+    ensures { IfOk result (λ column. column ≡ arc_column instance.now graph.now (number, kind.now)) }
+{
+    Ok(Column {
+        name: arc_name(alloc, number, kind)?,
+        cost: cost(instance, kind),
+        entries: entries(alloc, starts, graph, kind)?,
+        lower: 0,
+        upper: u64::from(upper(instance, units, kind)),
+    })
 }
 
 // The name of the row of a node: `N`, its type, `_` and its number.

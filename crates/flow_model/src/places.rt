@@ -1,6 +1,8 @@
 //! Where the nodes of the types stand, all in one row.
 
 ghost use Rattle.std.specs.Prelude.{◌≡◌, ◌+◌, ◌-◌, ◌<◌, ◌≤◌, ◌^◌, IfOk, length, sum_by, slice_index};
+ghost use Rattle.packing_laws.specs.Instances.{IsAmong};
+ghost use Rattle.flow_graph.specs.Arcs.{flow_type};
 ghost use Rattle.flow_model.specs.Places.{AreStarts};
 
 use arc_num::Memory;
@@ -17,9 +19,7 @@ pub(crate) fn node_starts(alloc: Global, graph: &FlowGraph) -> Result<Vec<u32>, 
     let mut nodes = 0;
     starts.push(nodes)?;
     for t in 0..count {
-        if let Some(more) = graph.node_count(t + 1) {
-            nodes += more;
-        }
+        nodes += node_count(graph, t + 1);
         starts.push(nodes)?;
     }
     Ok(starts)
@@ -33,4 +33,15 @@ pub(crate) fn node_place(starts: &[u32], t: u32, node: u32) -> u32
     ensures { result ≡ slice_index starts.now (t - 1) + node }
 {
     starts[t as usize - 1] + node
+}
+
+/// How many nodes a type has.
+pub(crate) fn node_count(graph: &FlowGraph, t: u32) -> u32
+    requires { IsAmong t (length graph.now) }
+    ensures { result ≡ (flow_type graph.now t).nodes }
+{
+    match graph.node_count(t) {
+        Some(nodes) => nodes,
+        None => 0,
+    }
 }

@@ -1,0 +1,7 @@
+use Rattle.std.proofs.Common.{◌≡◌, ℕ, ◌+◌, ◌<◌, List, [], ◌∷◌, ◌++◌, length, get_or, rules, arith}
+use Rattle.std.proofs.lemmas.Grind.{common_steps}
+use Rattle.flow_model.proofs.RowLists.{columns_more}
+use Rattle.flow_model.proofs.models.columns.Goals as goal
+
+pub loop-kind-preserved : goal.loop-kind-preserved
+loop-kind-preserved c = grind (arith, common_steps, columns_more)
