@@ -1,0 +1,9 @@
+pub mod Weights
+pub mod Places
+pub mod Steps
+pub mod Cursors
+pub mod Balance
+pub mod Apart
+pub mod Drained
+pub mod Moves
+pub mod RunSums

@@ -1,0 +1,13 @@
+use Rattle.std.proofs.Common.{◌-◌}
+use Rattle.pattern_extract.specs.Walks.{AreCursors}
+use Rattle.pattern_extract.proofs.Steps.{IsWalked}
+use Rattle.pattern_extract.proofs.walks.walk.Given as goal
+
+abbrev pub invariant-loop-node : goal.invariant-loop-node
+invariant-loop-node l = record {
+  walked : IsWalked l.graph l.left l.t l.node l.times l.arcs.items;
+  cursors : AreCursors l.graph l.t l.left l.cursors;
+}
+
+abbrev pub decreases-loop-node : goal.decreases-loop-node
+decreases-loop-node l = l.nodes - l.node

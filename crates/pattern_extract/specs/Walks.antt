@@ -1,0 +1,69 @@
+-- Walks over arcs on which something is left, and sums over arcs under any weights. Places of arcs count from 0.
+use Rattle.std.specs.Prelude.{◌≡◌, ℕ, suc, ◌+◌, ◌-◌, ◌*◌, ◌<◌, ◌≤◌, Bool, true, false, ◌==◌, ◌&&◌, List, [], ◌∷◌, Some, All, sum_by, slice_get, slice_index}
+use Rattle.flow_graph.specs.declared.parts.TypeArc.{TypeArc}
+use Rattle.flow_graph.specs.declared.parts.ArcKind.{ArcKind}
+use Rattle.flow_graph.specs.declared.parts.ArcKind.TheVariants.{Bin, Loss, Piece}
+use Rattle.flow_graph.specs.Arcs.{TypeValue, flow_type, numbered, first_arc}
+use Rattle.flow_graph.specs.Faithful.{IsPath, AreNumbersOf}
+use Rattle.pattern_extract.specs.declared.runs.PathRun.{PathRun}
+use Rattle.pattern_extract.specs.Runs.{AreConserved, IsRun}
+
+-- f at the place of each value, times the value, added up
+abbrev pub weigh : (ℕ → ℕ) → List ℕ → ℕ
+weigh f [] = 0
+weigh f (x ∷ xs) = f 0 * x + weigh (λ k. f (suc k)) xs
+
+-- f at the places of the arcs with these numbers, added up
+abbrev pub weight_along : (ℕ → ℕ) → List ℕ → ℕ
+weight_along f numbers = sum_by (λ a. f (a - 1)) numbers
+
+-- under any weights of the places, what was there is what is left and so many times what lies along the arcs
+abbrev pub IsTaken : List ℕ → List ℕ → ℕ → List ℕ → Type 0
+IsTaken old new times numbers = (f : ℕ → ℕ) → weigh f old ≡ weigh f new + times * weight_along f numbers
+
+-- the arcs of a run: the bin arc of its type, and its path
+abbrev pub circuit_of : List TypeValue → PathRun → List ℕ
+circuit_of g run = first_arc g run.t ∷ run.arcs
+
+-- what the runs weigh
+abbrev pub runs_weight : List TypeValue → (ℕ → ℕ) → List PathRun → ℕ
+runs_weight g f runs = sum_by (λ run. run.times * weight_along f (circuit_of g run)) runs
+
+-- the numbers are those of the arcs of a path of type t from node a to node b
+abbrev pub IsRoute : List TypeValue → ℕ → ℕ → ℕ → List ℕ → Type 0
+IsRoute g t a b numbers = (path : List TypeArc) × IsPath (flow_type g t).arcs a b path × AreNumbersOf g t numbers path
+
+-- the arc goes on from node v of type t; a bin arc goes back
+abbrev pub goes_on : ℕ → ℕ → ArcKind → Bool
+goes_on t v (Bin s) = false
+goes_on t v (Loss s tail head) = (s == t) && (tail == v)
+goes_on t v (Piece s tail head item form) = (s == t) && (tail == v)
+
+-- where the arc ends; a bin arc ends in the source
+abbrev pub head_of : ArcKind → ℕ
+head_of (Bin s) = 1
+head_of (Loss s tail head) = head
+head_of (Piece s tail head item form) = head
+
+-- at place k stands an arc that goes on from node v of type t, and something is left on it
+pub record IsWayOn (kinds : List ArcKind) (left : List ℕ) (t v k : ℕ) : Type 0 where
+  pub kind : ArcKind
+  pub there : slice_get kinds k ≡ Some kind
+  pub goes : goes_on t v kind ≡ true
+  pub some : 0 < slice_index left k
+
+-- no way on from a node of type t stands before the place that is kept for the node
+abbrev pub AreCursors : List TypeValue → ℕ → List ℕ → List ℕ → Type 0
+AreCursors g t left cursors = (v k : ℕ) → 1 ≤ v → IsWayOn (numbered g) left t v k → slice_index cursors (v - 1) ≤ k
+
+-- some units are moved off the arcs into runs: what was left is what is left now and what the further runs hold
+pub record AreMoved (g : List TypeValue) (left : List ℕ) (runs : List PathRun) (rest : List ℕ) (more : List PathRun) : Type 0 where
+  pub each : All (IsRun g) more
+  pub conserved : AreConserved g rest
+  pub falls : (k : ℕ) → slice_index rest k ≤ slice_index left k
+  pub sums : (f : ℕ → ℕ) → weigh f left + runs_weight g f runs ≡ weigh f rest + runs_weight g f more
+
+-- the runs hold all units of the values, whatever weights the arcs have
+pub record HoldAll (g : List TypeValue) (values : List ℕ) (runs : List PathRun) : Type 0 where
+  pub each : All (IsRun g) runs
+  pub sums : (f : ℕ → ℕ) → weigh f values ≡ runs_weight g f runs
