@@ -7,3 +7,5 @@ pub mod Counts
 pub mod Ways
 pub mod PackedFlows
 pub mod Solutions
+pub mod Names
+pub mod Lawful

@@ -103,7 +103,7 @@ shift_test a b c = ⊎_elim
     (λ other. ne_eqb (a + b) (a + c) (λ e. other (omega (arith, e))) ∙ sym (ne_eqb b c other))
     (cases_eq b c)
 
-some_same : {X : Type 0} (x y : X) → Some x ≡ Some y → x ≡ y
+pub some_same : {X : Type 0} (x y : X) → Some x ≡ Some y → x ≡ y
 some_same x y h = cc
 
 -- the places of rows
@@ -165,13 +165,13 @@ module _ (I : InstanceValue) (g : List TypeValue) where
   abbrev row_of_node : ℕ × ℕ → Row
   row_of_node node = node_row node.0 node.1
 
-  row_node : (t v : ℕ) → IsAmong t (length g) → IsAmong v (flow_type g t).nodes → slice_get (model_rows I g) (node_place g t v - 1) ≡ Some (node_row t v)
+  pub row_node : (t v : ℕ) → IsAmong t (length g) → IsAmong v (flow_type g t).nodes → slice_get (model_rows I g) (node_place g t v - 1) ≡ Some (node_row t v)
   row_node t v among node = slice_get-append-left (map row_of_node (all_nodes g)) (map (item_row I) (up_to (length I.items))) (node_place g t v - 1) (node_row t v) (slice_get-map row_of_node (all_nodes g) (node_place g t v - 1) ∙ ap (option_map row_of_node) (node_at g t v among node))
 
   nodes_long : length (map row_of_node (all_nodes g)) ≡ total
   nodes_long = length-map (all_nodes g) row_of_node ∙ length_nodes 1 g
 
-  row_item : (i : ℕ) → IsAmong i (length I.items) → slice_get (model_rows I g) (item_place g i - 1) ≡ Some (item_row I i)
+  pub row_item : (i : ℕ) → IsAmong i (length I.items) → slice_get (model_rows I g) (item_place g i - 1) ≡ Some (item_row I i)
   row_item i among =
       let nodes : List Row = map row_of_node (all_nodes g) in
       let items : List Row = map (item_row I) (up_to (length I.items)) in
@@ -179,7 +179,7 @@ module _ (I : InstanceValue) (g : List TypeValue) where
       let place : item_place g i - 1 ≡ length nodes + (i - 1) = omega (arith, long, among.0) in
       ap (slice_get (nodes ++ items)) place ∙ slice_get-append-add nodes items (i - 1) ∙ slice_get-map (item_row I) (up_to (length I.items)) (i - 1) ∙ ap (option_map (item_row I)) (up_to_at (length I.items) i among)
 
-  rows_long : length (model_rows I g) ≡ total + length I.items
+  pub rows_long : length (model_rows I g) ≡ total + length I.items
   rows_long =
       let nodes : List Row = map row_of_node (all_nodes g) in
       let items : List Row = map (item_row I) (up_to (length I.items)) in
@@ -190,7 +190,7 @@ module _ (I : InstanceValue) (g : List TypeValue) where
       omega (arith, long, joined, many, up)
 
   -- each row is that of a node or of an item
-  row_cases : (r : ℕ) → IsAmong r (length (model_rows I g)) → ((t : ℕ) × (v : ℕ) × IsAmong t (length g) × IsAmong v (flow_type g t).nodes × (r ≡ node_place g t v)) ⊎ ((i : ℕ) × IsAmong i (length I.items) × (r ≡ item_place g i))
+  pub row_cases : (r : ℕ) → IsAmong r (length (model_rows I g)) → ((t : ℕ) × (v : ℕ) × IsAmong t (length g) × IsAmong v (flow_type g t).nodes × (r ≡ node_place g t v)) ⊎ ((i : ℕ) × IsAmong i (length I.items) × (r ≡ item_place g i))
   row_cases r among =
       let long = rows_long in
       ⊎_elim
@@ -202,13 +202,13 @@ module _ (I : InstanceValue) (g : List TypeValue) where
       (cases_lt r (total + 1))
 
 module _ (I : InstanceValue) (g : List TypeValue) (n : ℕ) (sources : All (λ x. 1 ≤ x.nodes) g) where
-  source : (s : ℕ) → IsAmong s (length g) → 1 ≤ (flow_type g s).nodes
+  pub source : (s : ℕ) → IsAmong s (length g) → 1 ≤ (flow_type g s).nodes
   source s among = sources (s - 1) (record { nodes = 1; arcs = [] }) (omega (arith, among.0, among.1))
 
-  low_node : (s tail head : ℕ) → IsBetween g s tail head → IsAmong tail (flow_type g s).nodes
+  pub low_node : (s tail head : ℕ) → IsBetween g s tail head → IsAmong tail (flow_type g s).nodes
   low_node s tail head own = (own.low, let high = own.high in let rises = own.rises in omega (arith, high, rises))
 
-  high_node : (s tail head : ℕ) → IsBetween g s tail head → IsAmong head (flow_type g s).nodes
+  pub high_node : (s tail head : ℕ) → IsBetween g s tail head → IsAmong head (flow_type g s).nodes
   high_node s tail head own = (let low = own.low in let rises = own.rises in omega (arith, low, rises), own.high)
 
   module _ (t v : ℕ) (two : IsAmong t (length g)) (other : IsAmong v (flow_type g t).nodes) where

@@ -1,7 +1,12 @@
 //! What holds of all models. Each function is empty: a call brings its law in as a fact.
 
-ghost use Rattle.flow_model.specs.Models.{SolutionsAreFlows};
+ghost use Rattle.flow_model.specs.Models.{ModelsArePrograms, SolutionsAreFlows};
 ghost use Rattle.flow_model.specs.Packed.{PackingsAreFlows};
+
+/// The program of a model keeps the rules of programs: its names are names, and no two are the same.
+pub fn models_are_programs()
+    ensures { ModelsArePrograms }
+{}
 
 /// The solutions of the program of a model are the flows, and its objective is what the bins cost.
 pub fn solutions_are_flows()
