@@ -13,7 +13,7 @@ use Rattle.arc_program.specs.declared.refusals.Refusal.TheVariants.{Words, Unrea
 use Rattle.arc_program.specs.declared.status.Status.{Status}
 use Rattle.arc_program.specs.declared.status.Status.TheVariants.{Usage, BadInstance, ReadFault as ReadFaults, WriteFault, NoMemory, TooLarge}
 use Rattle.arc_program.specs.declared.words.WordFault.{WordFault}
-use Rattle.arc_program.specs.Words.{Word, Request, Compiles, Solves, words_of}
+use Rattle.arc_program.specs.Words.{Word, Request, Compiles, Solves, Exports, words_of}
 use Rattle.arc_program.specs.Refusals.{large_line}
 use Rattle.arc_program.specs.Runs.{name_of, layout_of, MakesGraphs, IsAccepted, IsLargeAt, IsLong, IsBadAt, IsReport, IsReported, HasInstance, IsOwed, IsSaid, Says, SaysLarge, CountsReads, CountsPuts, SmallIsNotLarge}
 
@@ -37,6 +37,7 @@ small_is_not_large one vbp mvp request bytes I t accepted small large =
 report_small : (request : Request) (I : InstanceValue) (status : Status) (text : List ℕ) → MakesGraphs request → IsReport request I status text → IsSmall I
 report_small (Compiles name mvp) I status text makes report = report.small
 report_small (Solves name mvp) I status text makes report = absurd makes
+report_small (Exports name mvp) I status text makes report = report.small
 
 -- where a report was owed, the graphs are not too large
 pub reported_not_large : SmallIsNotLarge → (asked : Result Request WordFault) (held : Files) (status : Status) (P : List ℕ → Type 0) (G : Type 0) → IsOkAnd asked (λ request. IfSome (held (name_of request)) (λ bytes. (I : InstanceValue) × IsAccepted request bytes I × (text : List ℕ) × IsReport request I status text × P text)) → IfOk asked (λ request. IfSome (held (name_of request)) (λ bytes. (t : ℕ) → MakesGraphs request → IsLargeAt request t bytes → G))

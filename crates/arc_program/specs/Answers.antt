@@ -1,31 +1,32 @@
 -- What `solve` owes for an answer.
-use Rattle.std.specs.Prelude.{◌≡◌, ℕ, ◌<◌, List}
+use Rattle.std.specs.Prelude.{◌≡◌, ℕ, ◌<◌, ◌≤◌, List}
 use Rattle.packing_laws.specs.declared.packings.Bin.{Bin}
 use Rattle.packing_laws.specs.Instances.{InstanceValue}
-use Rattle.packing_laws.specs.Packings.{IsFloor, IsLeast, HasNoPacking, cost_of}
+use Rattle.packing_laws.specs.Packings.{IsFloor, IsLeast, IsJoined, HasNoPacking, cost_of}
 use Rattle.packing_laws.specs.Printed.{bins_of, IsWrittenPacking, IsTidy}
-use Rattle.packing_laws.specs.Floors.{material_of, single_of, HasPlaces, HasSingle, HasOneUnitEach}
+use Rattle.packing_laws.specs.Floors.{material_of, single_of, HasPlaces, HasSingle}
 use Rattle.arc_program.specs.declared.answers.Answer.{Answer}
 use Rattle.arc_program.specs.declared.answers.Answer.TheVariants.{Optimal, Bracket, Unpacked, Infeasible}
 
--- the bins are a packing of the instance in the printed form, one unit to a bin, at this cost: the single cost
-pub record IsUnitPacking (I : InstanceValue) (cost : ℕ) (bins : List Bin) : Type 0 where
+-- the bins are a packing of the instance in the printed form at this cost, which is at most the single cost, and no two
+-- of them can be joined
+pub record IsFoundPacking (I : InstanceValue) (cost : ℕ) (bins : List Bin) : Type 0 where
   pub tidy : IsTidy bins
   pub packing : IsWrittenPacking I bins
-  pub units : HasOneUnitEach (bins_of bins)
+  pub joined : IsJoined I (bins_of bins)
   pub cost_is : cost_of I (bins_of bins) ≡ cost
   pub single : HasSingle I
-  pub single_is : cost ≡ single_of I
+  pub within : cost ≤ single_of I
 
 -- a packing at the material bound, which no packing undercuts
 pub record IsOptimal (I : InstanceValue) (cost : ℕ) (bins : List Bin) : Type 0 where
-  pub packing : IsUnitPacking I cost bins
+  pub packing : IsFoundPacking I cost bins
   pub at_bound : material_of I ≡ cost
   pub least : IsLeast I cost
 
 -- a packing above the material bound, which no packing undercuts
 pub record IsBracket (I : InstanceValue) (lower cost : ℕ) (bins : List Bin) : Type 0 where
-  pub packing : IsUnitPacking I cost bins
+  pub packing : IsFoundPacking I cost bins
   pub bound : lower ≡ material_of I
   pub above : lower < cost
   pub floor : IsFloor I lower

@@ -8,3 +8,4 @@ pub mod Statuses
 pub mod Refusals
 pub mod Runs
 pub mod Inputs
+pub mod Exports

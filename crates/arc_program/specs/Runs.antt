@@ -19,8 +19,9 @@ use Rattle.arc_program.specs.declared.status.Status.{Status}
 use Rattle.arc_program.specs.declared.status.Status.TheVariants.{Done, Bracketed, Usage, BadInstance, BadCertificate, ReadFault as ReadFaults, WriteFault, NoMemory, TooLarge}
 use Rattle.arc_program.specs.declared.refusals.Refusal.{Refusal}
 use Rattle.arc_program.specs.declared.refusals.Refusal.TheVariants.{Words, Unread, Long, BadPlace, Large, Unwritten, Memory}
-use Rattle.arc_program.specs.Words.{Word, Request, Compiles, Solves, words_of}
+use Rattle.arc_program.specs.Words.{Word, Request, Compiles, Solves, Exports, words_of}
 use Rattle.arc_program.specs.Answers.{IsAnswer}
+use Rattle.arc_program.specs.Exports.{IsExport}
 use Rattle.arc_program.specs.Reports.{answer_text, graphs_text}
 use Rattle.arc_program.specs.Refusals.{refusal_line, refusal_status, memory_line, long_line, place_line, large_line}
 use Rattle.arc_program.specs.Printing.{TakesPrefix}
@@ -29,6 +30,7 @@ use Rattle.arc_program.specs.Printing.{TakesPrefix}
 abbrev pub name_of : Request → List ℕ
 name_of (Compiles name mvp) = name
 name_of (Solves name mvp) = name
+name_of (Exports name mvp) = name
 
 abbrev pub layout_for : Bool → Layout
 layout_for true = Mvp
@@ -38,6 +40,7 @@ layout_for false = Vbp
 abbrev pub layout_of : Request → Layout
 layout_of (Compiles name mvp) = layout_for mvp
 layout_of (Solves name mvp) = layout_for mvp
+layout_of (Exports name mvp) = layout_for mvp
 
 -- the bytes spell the instance, and are not too many
 abbrev pub IsAccepted : Request → List ℕ → InstanceValue → Type 0
@@ -59,6 +62,7 @@ IsRefused request bytes = IsLong bytes ⊎ ((fault : ReadFault) × IsBadAt reque
 abbrev pub MakesGraphs : Request → Type 0
 MakesGraphs (Compiles name mvp) = Unit {0}
 MakesGraphs (Solves name mvp) = ⊥
+MakesGraphs (Exports name mvp) = Unit {0}
 
 -- the bytes spell an instance whose graphs are too large from type t on
 abbrev pub IsLargeAt : Request → ℕ → List ℕ → Type 0
@@ -85,6 +89,7 @@ pub record IsGraphReport (I : InstanceValue) (status : Status) (text : List ℕ)
 -- the text is the report that is owed for the instance, and this is the status
 abbrev pub IsReport : Request → InstanceValue → Status → List ℕ → Type 0
 IsReport (Compiles name mvp) I status text = IsGraphReport I status text
+IsReport (Exports name mvp) I status text = IsExport I status text
 IsReport (Solves name mvp) I status text = (answer : Answer) × IsAnswer I answer × (text ≡ answer_text answer) × (status ≡ answer_status answer)
 
 -- of the bytes under the name that is asked about, where they are told: they spell an instance, and P holds of a report on it

@@ -4,7 +4,7 @@ use Rattle.std.specs.List.{list_any, starts_with, ends_with, before_first}
 use Rattle.std.specs.Str.{bytes_eq}
 use Rattle.arc_program.specs.declared.words.Arguments.{Arguments}
 use Rattle.arc_program.specs.declared.words.Command.{Command}
-use Rattle.arc_program.specs.declared.words.Command.TheVariants.{Compile, Solve}
+use Rattle.arc_program.specs.declared.words.Command.TheVariants.{Compile, Solve, Export}
 use Rattle.arc_program.specs.declared.words.Kind.{Kind}
 use Rattle.arc_program.specs.declared.words.Kind.TheVariants.{End, Flag, Plain}
 use Rattle.arc_program.specs.declared.words.WordFault.{WordFault}
@@ -17,11 +17,13 @@ Word = List ℕ
 pub data Request : Type 0 where
   Compiles : (name : List ℕ) (mvp : Bool) → Request
   Solves : (name : List ℕ) (mvp : Bool) → Request
+  Exports : (name : List ℕ) (mvp : Bool) → Request
 
 -- what a command asks for
 abbrev pub request_of : Command → Request
 request_of (Compile name mvp) = Compiles (string_bytes name) mvp
 request_of (Solve name mvp) = Solves (string_bytes name) mvp
+request_of (Export name mvp) = Exports (string_bytes name) mvp
 
 -- the word that ends the options
 abbrev pub is_end : Word → Bool
@@ -118,7 +120,8 @@ words_of [] = Err NoCommand
 words_of (c ∷ ws) =
     if bytes_eq c (codes "compile") then asked Compiles (arguments_of ws)
     else (if bytes_eq c (codes "solve") then asked Solves (arguments_of ws)
-    else Err (NoSuchCommand 1))
+    else (if bytes_eq c (codes "export") then asked Exports (arguments_of ws)
+    else Err (NoSuchCommand 1)))
 
 -- the fault is what the words give, unless it is want of memory
 abbrev pub FaultIs : {T : Type 0} → Result T WordFault → WordFault → Type 0

@@ -1,14 +1,16 @@
 //! The work of each command.
 
-ghost use Rattle.std.specs.Prelude.{◌≡◌, ◌↔◌, ℕ, IfOk, IfErr, IfSome, IsSome};
+ghost use Rattle.std.specs.Prelude.{◌≡◌, ◌≤◌, ◌↔◌, ℕ, IfOk, IfErr, IfSome, IsSome};
 ghost use Rattle.arc_compile.specs.Levels.{AreLevelSizes};
 ghost use Rattle.arc_compile.specs.Graphs.{IsSmall, IsTooLarge};
 ghost use Rattle.arc_compile.specs.Compiled.{AreCompiled};
-ghost use Rattle.packing_laws.specs.Packings.{cost_of};
+ghost use Rattle.packing_laws.specs.Packings.{cost_of, IsJoined};
 ghost use Rattle.packing_laws.specs.Printed.{bins_of, IsTidy, IsWrittenPacking};
-ghost use Rattle.packing_laws.specs.Floors.{HasSingle, HasOneUnitEach};
+ghost use Rattle.packing_laws.specs.Floors.{HasSingle};
 ghost use Rattle.arc_program.specs.Words.{request_of};
-ghost use Rattle.arc_program.specs.Answers.{IsAnswer, IsUnitPacking};
+ghost use Rattle.flow_graph.specs.Faithful.{IsFaithful};
+ghost use Rattle.arc_program.specs.Exports.{IsExport};
+ghost use Rattle.arc_program.specs.Answers.{IsAnswer, IsFoundPacking};
 ghost use Rattle.arc_program.specs.Reports.{answer_text};
 ghost use Rattle.arc_program.specs.Runs.{IsReport, IsGraphReport, IsReported, MakesGraphs, answer_status};
 
@@ -19,9 +21,12 @@ use crate::text::Text;
 use crate::words::Command;
 use arc_compile::{CompileFault, Compiled, compile, level_size};
 use arc_num::Memory;
+use first_fit::first_fit;
+use flow_model::{models_are_programs, packings_are_flows, program_of, solutions_are_flows};
+use mps_text::{write_mps, written_is_read};
 use packing_laws::{
-    Instance, Packing, cost, homeless_item, material_bound, material_is_floor, no_place_no_packing,
-    packings_fit, tidy, units_apart,
+    Instance, Packing, cost, homeless_item, join_bins, material_bound, material_is_floor,
+    no_place_no_packing, packings_fit, tidy,
 };
 use std::alloc::Global;
 use std::thread::Threads;
@@ -48,36 +53,36 @@ impl Answer {
     }
 }
 
-/// The printed form of a packing with one unit to a bin.
-fn tidied(instance: &Instance, mut packing: Packing) -> Result<Packing, Memory>
-    requires written { IsWrittenPacking instance.now packing }
-    requires one_each { HasOneUnitEach (bins_of packing) }
+/// The printed form of a packing, with bins joined as long as two of them fit together.
+fn joined(instance: &Instance, mut packing: Packing) -> Result<Packing, Memory>
+    requires { IsWrittenPacking instance.now packing }
     ensures tidy { IfOk result IsTidy }
     ensures packing { IfOk result (IsWrittenPacking instance.now) }
-    ensures one_each { IfOk result (λ tidy. HasOneUnitEach (bins_of tidy)) }
-    ensures cost { IfOk result (λ tidy. cost_of instance.now (bins_of tidy) ≡ cost_of instance.now (bins_of packing)) }
+    ensures joined { IfOk result (λ joined. IsJoined instance.now (bins_of joined)) }
+    ensures cost { IfOk result (λ joined. cost_of instance.now (bins_of joined) ≤ cost_of instance.now (bins_of packing)) }
 {
     instance.known();
     packings_fit();
     tidy(&mut packing)?;
+    join_bins(instance, &mut packing)?;
     Ok(packing)
 }
 
-/// A packing in the printed form with one unit to a bin, at the single cost, where that exists.
-fn unit_packing(alloc: Global, instance: &Instance) -> Result<Option<Packing>, Memory>
+/// A first packing in the printed form, no two bins of which can be joined, where the single cost exists.
+fn found_packing(alloc: Global, instance: &Instance) -> Result<Option<Packing>, Memory>
     ensures exists { IfOk result (λ found. IsSome found ↔ HasSingle instance.now) }
-    ensures packing { IfOk result (λ found. IfSome found (λ packing. IsUnitPacking instance.now (cost_of instance.now (bins_of packing)) packing)) }
+    ensures packing { IfOk result (λ found. IfSome found (λ packing. IsFoundPacking instance.now (cost_of instance.now (bins_of packing)) packing)) }
 {
-    match units_apart(alloc, instance) {
-        Ok(Some(packing)) => Ok(Some(tidied(instance, packing)?)),
+    match first_fit(alloc, instance) {
+        Ok(Some(packing)) => Ok(Some(joined(instance, packing)?)),
         Ok(None) => Ok(None),
         Err(memory) => Err(memory),
     }
 }
 
-/// The answer with a packing at the single cost.
+/// The answer with a packing.
 fn packed_answer(instance: &Instance, packing: Packing) -> Answer
-    requires { IsUnitPacking instance.now (cost_of instance.now (bins_of packing)) packing }
+    requires { IsFoundPacking instance.now (cost_of instance.now (bins_of packing)) packing }
     ensures { IsAnswer instance.now result }
 {
     material_is_floor();
@@ -103,7 +108,7 @@ fn answer_of(alloc: Global, instance: &Instance) -> Result<Answer, Memory>
         no_place_no_packing();
         return Ok(Answer::Infeasible);
     }
-    match unit_packing(alloc, instance)? {
+    match found_packing(alloc, instance)? {
         Some(packing) => Ok(packed_answer(instance, packing)),
         None => {
             material_is_floor();
@@ -176,6 +181,45 @@ fn solve_report(alloc: Global, instance: &Instance) -> Result<Report, CompileFau
     }
 }
 
+/// The model of an instance that is compiled, as MPS text. The text is made whole before any of it is printed, so that
+/// want of memory leaves nothing printed.
+fn model_report(alloc: Global, instance: &Instance, compiled: &Compiled) -> Result<Report, Memory>
+    requires compiled { AreCompiled instance.now compiled.now.graph compiled.now.sizes }
+    requires faithful { IsFaithful instance.now compiled.now.graph }
+    requires small { IsSmall instance.now }
+    ensures reported { IfOk result (λ report. IsReported report.status) }
+    ensures text { IfOk result (λ report. IsExport instance.now report.status report.text) }
+{
+    instance.known();
+    compiled.graph.known();
+    models_are_programs();
+    solutions_are_flows();
+    packings_are_flows();
+    written_is_read();
+    let program = program_of(alloc, &compiled.graph, instance)?;
+    let text = Text::new(write_mps(alloc, &program)?);
+    Ok(Report {
+        text,
+        status: Status::Done,
+    })
+}
+
+fn export_report<R: Threads + Sync>(
+    rt: &R,
+    alloc: Global,
+    instance: &Instance,
+) -> Result<Report, CompileFault>
+    ensures reported { IfOk result (λ report. IsReported report.status) }
+    ensures text { IfOk result (λ report. IsExport instance.now report.status report.text) }
+    ensures large { IfErr result (λ fault. (t : ℕ) → fault ≡ CompileFault.TooManyArcs t → IsTooLarge instance.now t) }
+{
+    let compiled = compile(rt, alloc, instance, 1)?;
+    match model_report(alloc, instance, &compiled) {
+        Ok(report) => Ok(report),
+        Err(Memory) => Err(CompileFault::Memory),
+    }
+}
+
 /// Does a command's own work.
 pub fn report_on<R: Threads + Sync>(
     rt: &R,
@@ -190,5 +234,6 @@ pub fn report_on<R: Threads + Sync>(
     match command {
         Command::Compile { .. } => compile_report(rt, alloc, instance),
         Command::Solve { .. } => solve_report(alloc, instance),
+        Command::Export { .. } => export_report(rt, alloc, instance),
     }
 }

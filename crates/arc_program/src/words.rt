@@ -10,6 +10,7 @@ use thiserror::Error;
 pub enum Command {
     Compile { name: String, mvp: bool },
     Solve { name: String, mvp: bool },
+    Export { name: String, mvp: bool },
 }
 
 impl Command {
@@ -24,6 +25,7 @@ impl Command {
         match self {
             Command::Compile { name, .. } => name.as_str(),
             Command::Solve { name, .. } => name.as_str(),
+            Command::Export { name, .. } => name.as_str(),
         }
     }
 
@@ -34,6 +36,7 @@ impl Command {
         match self {
             Command::Compile { name, .. } => name,
             Command::Solve { name, .. } => name,
+            Command::Export { name, .. } => name,
         }
     }
 
@@ -44,6 +47,7 @@ impl Command {
         match self {
             Command::Compile { mvp, .. } => *mvp,
             Command::Solve { mvp, .. } => *mvp,
+            Command::Export { mvp, .. } => *mvp,
         }
     }
 }
@@ -134,6 +138,10 @@ pub fn read_words(alloc: Global, words: &[String]) -> Result<Command, WordFault>
         "solve" => {
             let Arguments { name, mvp } = read_arguments(alloc, others)?;
             Ok(Command::Solve { name, mvp })
+        }
+        "export" => {
+            let Arguments { name, mvp } = read_arguments(alloc, others)?;
+            Ok(Command::Export { name, mvp })
         }
         _ => Err(WordFault::NoSuchCommand { word: 1 }),
     }
