@@ -107,9 +107,9 @@ nodes_need_arcs arcs m leaves =
     let same : cond {A = ℕ} ((get_or arcs has.0 e).tail == v) 1 0 ≡ 1 = ap (λ (f : TypeArc). cond (f.tail == v) 1 0) has.2 ∙ here in
     omega (arith, there, same)) in
     omega (arith, ones m, each, all) where
-  ones : (m : ℕ) → sum_to (λ v. 1) m ≡ m
-  ones zero = refl
-  ones (suc m) = let rest = ones m in omega (arith, rest)
+      ones : (m : ℕ) → sum_to (λ v. 1) m ≡ m
+      ones zero = refl
+      ones (suc m) = let rest = ones m in omega (arith, rest)
 
 type_nodes : (x : TypeValue) → IsFlowType x → x.nodes ≤ length x.arcs + 1
 type_nodes x is =

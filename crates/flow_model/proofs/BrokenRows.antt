@@ -111,10 +111,10 @@ range_is I g i d within =
     let e : i + 1 - 1 ≡ i = omega arith in
     let long = length-map (numbered g) (root_range I) in
     rw e (get_or_default (root_ranges I g) i (0, 0) (root_range I d) (omega (arith, within, long)) ∙ mapped (numbered g) i) where
-  mapped : (kinds : List ArcKind) (i : ℕ) → get_or (map (root_range I) kinds) i (root_range I d) ≡ root_range I (get_or kinds i d)
-  mapped [] i = refl
-  mapped (kind ∷ kinds) zero = refl
-  mapped (kind ∷ kinds) (suc i) = mapped kinds i
+      mapped : (kinds : List ArcKind) (i : ℕ) → get_or (map (root_range I) kinds) i (root_range I d) ≡ root_range I (get_or kinds i d)
+      mapped [] i = refl
+      mapped (kind ∷ kinds) zero = refl
+      mapped (kind ∷ kinds) (suc i) = mapped kinds i
 
 -- one number more
 pub each_more : (P : ℕ → Type 0) (n : ℕ) → ((k : ℕ) → IsAmong k n → P k) → P (n + 1) → (k : ℕ) → IsAmong k (n + 1) → P k

@@ -101,10 +101,11 @@ moves_with n p q rest low high after_p after_q are = ⊎_elim
     (entry_first n enters (leaves ∷ rest) (unit_entry n q high) (All-cons (λ f. q < f.row) leaves rest (omega (arith, after, apart)) after_q) (entry_first n leaves rest (less_entry n p low) after_p are)))
     (cases_lt p q)))
     (cases_eq p q) where
-  leaves : Entry
-  leaves = record { row = p; value = negsuc 0 }
-  enters : Entry
-  enters = record { row = q; value = pos 1 }
+      leaves : Entry
+      leaves = record { row = p; value = negsuc 0 }
+
+      enters : Entry
+      enters = record { row = q; value = pos 1 }
 
 module _ (I : InstanceValue) (g : List TypeValue) (instance : IsInstance I) (graph : IsFlowGraph g) (of : GraphOf I g) where
   known : GraphKnown I g

@@ -9,3 +9,4 @@ pub mod PackedFlows
 pub mod Solutions
 pub mod Names
 pub mod Lawful
+pub mod Examples

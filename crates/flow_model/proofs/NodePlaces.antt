@@ -102,23 +102,23 @@ filled I g values tally instance is of room held =
     let known : GraphKnown I g = graph_known I g instance is of in
     record {
       comes = λ t v among node.
-      let fits = place_fits g t v among node in
-      let wide = room.comes in
-      let e : node_place g t v - 1 + 1 ≡ node_place g t v = omega (arith, fits.0) in
-      let sum = held.comes (node_place g t v - 1) (omega (arith, fits.0, fits.1, wide)) in
-      rw e at sum ∙ weigh_agree (λ kind. cond (head_in tally.starts kind == node_place g t v) 1 0) (λ kind. cond (comes_in t v kind) 1 0) (numbered g) values (All-weaker (IsArcOf (length I.items) g) (λ kind. cond {A = ℕ} (head_in tally.starts kind == node_place g t v) 1 0 ≡ cond (comes_in t v kind) 1 0) (λ kind own. ap (λ (b : Bool). cond {A = ℕ} b 1 0) (comes_test g (length I.items) known.sources t v among node tally.starts room.starts kind own)) (numbered g) arcs);
+          let fits = place_fits g t v among node in
+          let wide = room.comes in
+          let e : node_place g t v - 1 + 1 ≡ node_place g t v = omega (arith, fits.0) in
+          let sum = held.comes (node_place g t v - 1) (omega (arith, fits.0, fits.1, wide)) in
+          rw e at sum ∙ weigh_agree (λ kind. cond (head_in tally.starts kind == node_place g t v) 1 0) (λ kind. cond (comes_in t v kind) 1 0) (numbered g) values (All-weaker (IsArcOf (length I.items) g) (λ kind. cond {A = ℕ} (head_in tally.starts kind == node_place g t v) 1 0 ≡ cond (comes_in t v kind) 1 0) (λ kind own. ap (λ (b : Bool). cond {A = ℕ} b 1 0) (comes_test g (length I.items) known.sources t v among node tally.starts room.starts kind own)) (numbered g) arcs);
       goes = λ t v among node.
-      let fits = place_fits g t v among node in
-      let wide = room.goes in
-      let e : node_place g t v - 1 + 1 ≡ node_place g t v = omega (arith, fits.0) in
-      let sum = held.goes (node_place g t v - 1) (omega (arith, fits.0, fits.1, wide)) in
-      rw e at sum ∙ weigh_agree (λ kind. cond (tail_in tally.starts kind == node_place g t v) 1 0) (λ kind. cond (goes_out g t v kind) 1 0) (numbered g) values (All-weaker (IsArcOf (length I.items) g) (λ kind. cond {A = ℕ} (tail_in tally.starts kind == node_place g t v) 1 0 ≡ cond (goes_out g t v kind) 1 0) (λ kind own. ap (λ (b : Bool). cond {A = ℕ} b 1 0) (goes_test g (length I.items) known.sources t v among node tally.starts room.starts kind own)) (numbered g) arcs);
+          let fits = place_fits g t v among node in
+          let wide = room.goes in
+          let e : node_place g t v - 1 + 1 ≡ node_place g t v = omega (arith, fits.0) in
+          let sum = held.goes (node_place g t v - 1) (omega (arith, fits.0, fits.1, wide)) in
+          rw e at sum ∙ weigh_agree (λ kind. cond (tail_in tally.starts kind == node_place g t v) 1 0) (λ kind. cond (goes_out g t v kind) 1 0) (numbered g) values (All-weaker (IsArcOf (length I.items) g) (λ kind. cond {A = ℕ} (tail_in tally.starts kind == node_place g t v) 1 0 ≡ cond (goes_out g t v kind) 1 0) (λ kind own. ap (λ (b : Bool). cond {A = ℕ} b 1 0) (goes_test g (length I.items) known.sources t v among node tally.starts room.starts kind own)) (numbered g) arcs);
       items = λ i among.
-      let e : i - 1 + 1 ≡ i = omega (arith, among.0) in
-      let full = room.items in
-      let few = instance.item_count in
-      let sum = held.items (i - 1) (omega (arith, among.0, among.1, full, few)) in
-      rw e at sum;
+          let e : i - 1 + 1 ≡ i = omega (arith, among.0) in
+          let full = room.items in
+          let few = instance.item_count in
+          let sum = held.items (i - 1) (omega (arith, among.0, among.1, full, few)) in
+          rw e at sum;
     }
 
 placed_between : (g : List TypeValue) (starts : List ℕ) (n : ℕ) → AreStarts g starts → n ≡ sum_by (λ x. x.nodes) g → (t tail head : ℕ) → IsBetween g t tail head → ((1 ≤ t) × (t < length starts)) × IsAmong (get_or starts (t - 1) 0 + tail) n × IsAmong (get_or starts (t - 1) 0 + head) n

@@ -90,12 +90,13 @@ entry_moves r p q = ⊎_elim
     (λ after. ap (entry_in r) (cond-false (ltb p q) (leaves ∷ enters ∷ []) (enters ∷ leaves ∷ []) (le-ltb p q after)) ∙ (let a = one (q == r) in let b = less (p == r) in omega (arith, ints, a, b)))
     (cases_lt p q))
     (cases_eq p q) where
-  one_or : (b : Bool) → cond b (pos 1) (pos 0) ≡ pos (cond b 1 0)
-  one_or true = refl
-  one_or false = refl
-  less_or : (b : Bool) → cond b (negsuc 0) (pos 0) ≡ pos 0 -ℤ pos (cond b 1 0)
-  less_or true = omega (arith, ints)
-  less_or false = omega (arith, ints)
+      one_or : (b : Bool) → cond b (pos 1) (pos 0) ≡ pos (cond b 1 0)
+      one_or true = refl
+      one_or false = refl
+
+      less_or : (b : Bool) → cond b (negsuc 0) (pos 0) ≡ pos 0 -ℤ pos (cond b 1 0)
+      less_or true = omega (arith, ints)
+      less_or false = omega (arith, ints)
 
 shift_test : (a b c : ℕ) → (a + b == a + c) ≡ (b == c)
 shift_test a b c = ⊎_elim
@@ -249,9 +250,9 @@ module _ (I : InstanceValue) (g : List TypeValue) (n : ℕ) (sources : All (λ x
         let test : (item_place g item == item_place g i) ≡ (item == i) = shift_test (sum_by (λ (x : TypeValue). x.nodes) g) item i in
         let own : cond (item_place g item == item_place g i) (pos 1) (pos 0) ≡ pos (cond (item == i) 1 0) = ap (λ (b : Bool). cond b (pos 1) (pos 0)) test ∙ as_pos (item == i) in
         omega (arith, ints, first, joined, own) where
-      as_pos : (b : Bool) → cond b (pos 1) (pos 0) ≡ pos (cond b 1 0)
-      as_pos true = refl
-      as_pos false = refl
+          as_pos : (b : Bool) → cond b (pos 1) (pos 0) ≡ pos (cond b 1 0)
+          as_pos true = refl
+          as_pos false = refl
 
 -- the bounds of the columns of the arcs
 abbrev AreBounded : InstanceValue → List ArcKind → List ℕ → Type 0
@@ -264,9 +265,9 @@ bounds_to I g n (kind ∷ kinds) [] h = absurd h
 bounds_to I g n (kind ∷ kinds) (x ∷ values) h =
     let rest = bounds_to I g (n + 1) kinds values h.2 in
     (ap suc rest.0, each h.1 rest.1) where
-  each : x ≤ upper_of I kind → ((i : ℕ) (d : ArcKind) → i < length kinds → get_or values i 0 ≤ upper_of I (get_or kinds i d)) → (i : ℕ) (d : ArcKind) → i < length (kind ∷ kinds) → get_or (x ∷ values) i 0 ≤ upper_of I (get_or (kind ∷ kinds) i d)
-  each first rest zero d within = first
-  each first rest (suc i) d within = rest i d (omega (arith, within))
+      each : x ≤ upper_of I kind → ((i : ℕ) (d : ArcKind) → i < length kinds → get_or values i 0 ≤ upper_of I (get_or kinds i d)) → (i : ℕ) (d : ArcKind) → i < length (kind ∷ kinds) → get_or (x ∷ values) i 0 ≤ upper_of I (get_or (kind ∷ kinds) i d)
+      each first rest zero d within = first
+      each first rest (suc i) d within = rest i d (omega (arith, within))
 
 bounds_from : (I : InstanceValue) (g : List TypeValue) (n : ℕ) (kinds : List ArcKind) (values : List ℕ) → AreBounded I kinds values → AreWithin (map (arc_column I g) (enumerate_from n kinds)) values
 bounds_from I g n [] [] h = tt
@@ -297,40 +298,40 @@ module _ (I : InstanceValue) (g : List TypeValue) (values : List ℕ) (instance 
       record {
         size = within.0;
         nodes = λ t v among node.
-        let fits = place_fits g t v among node in
-        let met : row_sum (program_of_model I g) values (node_place g t v) ≡ pos 0 = is.rows (node_place g t v) (node_row t v) (fits.0, omega (arith, fits.1, long)) (row_node I g t v among node) in
-        let sum = node_sum t v among node in
-        omega (arith, ints, met, sum);
+            let fits = place_fits g t v among node in
+            let met : row_sum (program_of_model I g) values (node_place g t v) ≡ pos 0 = is.rows (node_place g t v) (node_row t v) (fits.0, omega (arith, fits.1, long)) (row_node I g t v among node) in
+            let sum = node_sum t v among node in
+            omega (arith, ints, met, sum);
         demands = λ i among.
-        let met : pos (item_at I i).demand ≤ℤ row_sum (program_of_model I g) values (item_place g i) = is.rows (item_place g i) (item_row I i) (omega (arith, among.0), omega (arith, among.1, long)) (row_item I g i among) in
-        let sum = item_sum i among.0 in
-        omega (arith, ints, met, sum);
+            let met : pos (item_at I i).demand ≤ℤ row_sum (program_of_model I g) values (item_place g i) = is.rows (item_place g i) (item_row I i) (omega (arith, among.0), omega (arith, among.1, long)) (row_item I g i among) in
+            let sum = item_sum i among.0 in
+            omega (arith, ints, met, sum);
         bounds = λ a among.
-        let e : a - 1 + 1 ≡ a = omega (arith, among.0) in
-        let here : a - 1 < length (numbered g) = omega (arith, among.0, among.1) in
-        rw e at ((bounded_at I g values (a - 1) (Bin 0) here (get_or values (a - 1) 0) (upper_of I (get_or (numbered g) (a - 1) (Bin 0))) refl refl).0 (within.1 (a - 1) (Bin 0) here));
+            let e : a - 1 + 1 ≡ a = omega (arith, among.0) in
+            let here : a - 1 < length (numbered g) = omega (arith, among.0, among.1) in
+            rw e at ((bounded_at I g values (a - 1) (Bin 0) here (get_or values (a - 1) 0) (upper_of I (get_or (numbered g) (a - 1) (Bin 0))) refl refl).0 (within.1 (a - 1) (Bin 0) here));
       }
 
   solution_from : IsFlow I g values → IsSolution (program_of_model I g) values
   solution_from is = record {
     bounds = bounds_from I g 1 (numbered g) values (is.size, λ i d within. (bounded_at I g values i d within (get_or values i 0) (upper_of I (get_or (numbered g) i d)) refl refl).1 (is.bounds (i + 1) (omega arith, omega (arith, within))));
     rows = λ r row among at. ⊎_elim
-    (λ found.
-    let t : ℕ = found.0 in
-    let v : ℕ = found.1 in
-    let same : node_row t v ≡ row = some_same (node_row t v) row (sym (row_node I g t v found.2 found.3) ∙ ap (λ (k : ℕ). slice_get (model_rows I g) (k - 1)) (sym found.4) ∙ at) in
-    let sum = node_sum t v found.2 found.3 in
-    let even = is.nodes t v found.2 found.3 in
-    let met : row_sum (program_of_model I g) values (node_place g t v) ≡ pos 0 = omega (arith, ints, sum, even) in
-    subst (λ (row : Row). Meets row.kind (row_sum (program_of_model I g) values r) row.right) same (ap (row_sum (program_of_model I g) values) found.4 ∙ met))
-    (λ found.
-    let i : ℕ = found.0 in
-    let same : item_row I i ≡ row = some_same (item_row I i) row (sym (row_item I g i found.1) ∙ ap (λ (k : ℕ). slice_get (model_rows I g) (k - 1)) (sym found.2) ∙ at) in
-    let sum = item_sum i found.1.0 in
-    let served = is.demands i found.1 in
-    let met : pos (item_at I i).demand ≤ℤ row_sum (program_of_model I g) values (item_place g i) = omega (arith, ints, sum, served) in
-    subst (λ (row : Row). Meets row.kind (row_sum (program_of_model I g) values r) row.right) same (subst (λ (k : ℕ). pos (item_at I i).demand ≤ℤ row_sum (program_of_model I g) values k) (sym found.2) met))
-    (row_cases I g r among);
+        (λ found.
+        let t : ℕ = found.0 in
+        let v : ℕ = found.1 in
+        let same : node_row t v ≡ row = some_same (node_row t v) row (sym (row_node I g t v found.2 found.3) ∙ ap (λ (k : ℕ). slice_get (model_rows I g) (k - 1)) (sym found.4) ∙ at) in
+        let sum = node_sum t v found.2 found.3 in
+        let even = is.nodes t v found.2 found.3 in
+        let met : row_sum (program_of_model I g) values (node_place g t v) ≡ pos 0 = omega (arith, ints, sum, even) in
+        subst (λ (row : Row). Meets row.kind (row_sum (program_of_model I g) values r) row.right) same (ap (row_sum (program_of_model I g) values) found.4 ∙ met))
+        (λ found.
+        let i : ℕ = found.0 in
+        let same : item_row I i ≡ row = some_same (item_row I i) row (sym (row_item I g i found.1) ∙ ap (λ (k : ℕ). slice_get (model_rows I g) (k - 1)) (sym found.2) ∙ at) in
+        let sum = item_sum i found.1.0 in
+        let served = is.demands i found.1 in
+        let met : pos (item_at I i).demand ≤ℤ row_sum (program_of_model I g) values (item_place g i) = omega (arith, ints, sum, served) in
+        subst (λ (row : Row). Meets row.kind (row_sum (program_of_model I g) values r) row.right) same (subst (λ (k : ℕ). pos (item_at I i).demand ≤ℤ row_sum (program_of_model I g) values k) (sym found.2) met))
+        (row_cases I g r among);
   }
 
 pub solutions_are_flows : SolutionsAreFlows

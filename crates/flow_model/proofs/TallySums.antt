@@ -80,18 +80,18 @@ module _ (old new : TallyValue) (kind : ArcKind) (x : ℕ) (placed : IsPlaced (l
       let far : length new.items ≡ length old.items = ap length more.items ∙ item_size old.items kind x in
       record {
         comes = λ j short.
-        let own : get_or old.comes j 0 ≡ weigh_arcs (λ k. cond (head_in old.starts k == j + 1) 1 0) (take i kinds) (take i values) = held.comes j (omega (arith, short, wide)) in
-        let at = raised_at old.comes (head_in old.starts kind) x j placed.head in
-        let step = next (λ k. cond (head_in old.starts k == j + 1) 1 0) in
-        rw (more.comes, more.starts) (at ∙ ap (λ (n : ℕ). n + cond (head_in old.starts kind == j + 1) 1 0 * x) own ∙ sym step);
+            let own : get_or old.comes j 0 ≡ weigh_arcs (λ k. cond (head_in old.starts k == j + 1) 1 0) (take i kinds) (take i values) = held.comes j (omega (arith, short, wide)) in
+            let at = raised_at old.comes (head_in old.starts kind) x j placed.head in
+            let step = next (λ k. cond (head_in old.starts k == j + 1) 1 0) in
+            rw (more.comes, more.starts) (at ∙ ap (λ (n : ℕ). n + cond (head_in old.starts kind == j + 1) 1 0 * x) own ∙ sym step);
         goes = λ j short.
-        let own : get_or old.goes j 0 ≡ weigh_arcs (λ k. cond (tail_in old.starts k == j + 1) 1 0) (take i kinds) (take i values) = held.goes j (omega (arith, short, long)) in
-        let at = raised_at old.goes (tail_in old.starts kind) x j at_tail in
-        let step = next (λ k. cond (tail_in old.starts k == j + 1) 1 0) in
-        rw (more.goes, more.starts) (at ∙ ap (λ (n : ℕ). n + cond (tail_in old.starts kind == j + 1) 1 0 * x) own ∙ sym step);
+            let own : get_or old.goes j 0 ≡ weigh_arcs (λ k. cond (tail_in old.starts k == j + 1) 1 0) (take i kinds) (take i values) = held.goes j (omega (arith, short, long)) in
+            let at = raised_at old.goes (tail_in old.starts kind) x j at_tail in
+            let step = next (λ k. cond (tail_in old.starts k == j + 1) 1 0) in
+            rw (more.goes, more.starts) (at ∙ ap (λ (n : ℕ). n + cond (tail_in old.starts kind == j + 1) 1 0 * x) own ∙ sym step);
         items = λ j short.
-        let own : get_or old.items j 0 ≡ weigh_arcs (λ k. cond (carries (j + 1) k) 1 0) (take i kinds) (take i values) = held.items j (omega (arith, short, far)) in
-        let at = item_at old.starts old.items kind x j items placed.of_type in
-        let step = next (λ k. cond (carries (j + 1) k) 1 0) in
-        rw more.items (at ∙ ap (λ (n : ℕ). n + cond (carries (j + 1) kind) 1 0 * x) own ∙ sym step);
+            let own : get_or old.items j 0 ≡ weigh_arcs (λ k. cond (carries (j + 1) k) 1 0) (take i kinds) (take i values) = held.items j (omega (arith, short, far)) in
+            let at = item_at old.starts old.items kind x j items placed.of_type in
+            let step = next (λ k. cond (carries (j + 1) k) 1 0) in
+            rw more.items (at ∙ ap (λ (n : ℕ). n + cond (carries (j + 1) kind) 1 0 * x) own ∙ sym step);
       }

@@ -54,8 +54,8 @@ abbrev pub moves : ℕ → ℕ → List Entry
 moves tail head =
     if tail == head then []
     else (if nat_lt tail head
-        then record { row = tail; value = negsuc 0 } ∷ record { row = head; value = pos 1 } ∷ []
-        else record { row = head; value = pos 1 } ∷ record { row = tail; value = negsuc 0 } ∷ [])
+    then record { row = tail; value = negsuc 0 } ∷ record { row = head; value = pos 1 } ∷ []
+    else record { row = head; value = pos 1 } ∷ record { row = tail; value = negsuc 0 } ∷ [])
 
 -- what a unit on an arc adds in the rows
 abbrev pub entries_of : List TypeValue → ArcKind → List Entry

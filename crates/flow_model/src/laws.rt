@@ -2,6 +2,7 @@
 
 ghost use Rattle.flow_model.specs.Models.{ModelsArePrograms, SolutionsAreFlows};
 ghost use Rattle.flow_model.specs.Packed.{PackingsAreFlows};
+ghost use Rattle.flow_model.specs.Worked.{Rows};
 
 /// The program of a model keeps the rules of programs: its names are names, and no two are the same.
 pub fn models_are_programs()
@@ -17,4 +18,9 @@ pub fn solutions_are_flows()
 /// with what is in the bin.
 pub fn packings_are_flows()
     ensures { PackingsAreFlows }
+{}
+
+/// A model that is worked by hand.
+pub fn rows_are_worked()
+    ensures { Rows }
 {}

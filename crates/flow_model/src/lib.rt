@@ -18,7 +18,7 @@ mod tests;
 pub use boxes::{FlowBox, root_box};
 pub use checks::{first_bad, is_flow};
 pub use flows::{Flow, FlowRow};
-pub use laws::{models_are_programs, packings_are_flows, solutions_are_flows};
+pub use laws::{models_are_programs, packings_are_flows, rows_are_worked, solutions_are_flows};
 pub use listed::Listed;
 pub use models::program_of;
 pub use programs::{Column, Entry, Name, Program, Row, RowKind};
