@@ -382,14 +382,15 @@ fn counts_and_bins_out_of_order(rt: HostRuntime) -> Result<(), Fail> {
 
 /// Tidies a packing and joins its bins. False where it is none.
 fn join_tidied(instance: &Instance, packing: &mut Packing) -> Result<bool, Memory> {
-    if !is_packing(instance, packing) {
-        return Ok(false);
-    }
     instance.known();
     packings_fit();
-    tidy(packing)?;
-    join_bins(instance, packing)?;
-    Ok(true)
+    if is_packing(instance, packing) {
+        tidy(packing)?;
+        join_bins(instance, packing)?;
+        Ok(true)
+    } else {
+        Ok(false)
+    }
 }
 
 #[test]
