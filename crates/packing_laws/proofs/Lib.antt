@@ -15,3 +15,6 @@ pub mod TidyParts
 pub mod SameContents
 pub mod TidyLaws
 pub mod WrittenUnits
+pub mod BinTotals
+pub mod JoinedBins
+pub mod JoinSteps

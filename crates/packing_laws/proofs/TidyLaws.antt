@@ -43,7 +43,7 @@ sum_by-filter-le f p (x ∷ xs) =
     let kept : sum_by f (x ∷ filter p xs) ≡ f x + sum_by f (filter p xs) = sum_by-cons f x (filter p xs) in
     cond_both (p x) (x ∷ filter p xs) (filter p xs) (λ l. sum_by f l ≤ sum_by f (x ∷ xs)) (λ _. omega arith) (λ _. omega arith)
 
-filter-whole : {X : Type 0} (p : X → Bool) (xs : List X) → All (λ x. p x ≡ true) xs → filter p xs ≡ xs
+pub filter-whole : {X : Type 0} (p : X → Bool) (xs : List X) → All (λ x. p x ≡ true) xs → filter p xs ≡ xs
 filter-whole p [] all = refl
 filter-whole p (x ∷ xs) all =
     cond-true (p x) (x ∷ filter p xs) (filter p xs) (All-first (λ y. p y ≡ true) x xs all) ∙ ap (λ l. x ∷ l) (filter-whole p xs (All-others (λ y. p y ≡ true) x xs all))
@@ -72,7 +72,7 @@ is_of_form i f n some = elim (cases_Bool ((n.item == i) && (n.form == f))) [
 ]
 
 -- a content with as many of each form fits too
-same-fits : (I : InstanceValue) (t : ℕ) (c d : Content) → SameContent c d → All (λ n. 0 < n.count) d → Fits I t c → Fits I t d
+pub same-fits : (I : InstanceValue) (t : ℕ) (c d : Content) → SameContent c d → All (λ n. 0 < n.count) d → Fits I t c → Fits I t d
 same-fits I t c d same positive fits = record {
   bin_type = fits.bin_type;
   exists = λ k e within.

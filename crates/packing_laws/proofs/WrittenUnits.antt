@@ -49,7 +49,7 @@ all-exist I (b ∷ P) fits =
     (all-exist I P (All-others (λ (c : ℕ × Content). Fits I c.0 c.1) b P fits))
 
 -- the bins hold at most 1,000,000,000 units
-written-units : (I : InstanceValue) (bins : List Bin) → IsInstance I → IsWrittenPacking I bins → sum_by (λ b. b.times * units_in b.counts) bins ≤ 1000000000
+pub written-units : (I : InstanceValue) (bins : List Bin) → IsInstance I → IsWrittenPacking I bins → sum_by (λ b. b.times * units_in b.counts) bins ≤ 1000000000
 written-units I bins inside written =
     let P : Bins = bins_of bins in
     let n : ℕ = length I.items in

@@ -2,6 +2,7 @@ pub mod Instances
 pub mod Packings
 pub mod Printed
 pub mod Tidying
+pub mod Joining
 pub mod Floors
 pub mod FloorExamples
 pub mod Choices

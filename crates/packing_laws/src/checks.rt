@@ -60,7 +60,7 @@ fn is_light(instance: &Instance, counts: &[Count], cap: &[u32]) -> bool
 }
 
 /// What the counts weigh in one dimension, by its number from 1.
-fn weight(instance: &Instance, d: u32, counts: &[Count]) -> u128
+pub(crate) fn weight(instance: &Instance, d: u32, counts: &[Count]) -> u128
     requires exists { All (Exists instance.now) counts.now }
     requires among { IsAmong d instance.now.dims }
     ensures { result ≡ weight_in instance.now d counts.now }

@@ -17,7 +17,8 @@ pub fn cost(instance: &Instance, packing: &Packing) -> u128
     total
 }
 
-fn type_cost(instance: &Instance, t: u32) -> u32
+/// What a bin of a type costs; 0 where there is no such type.
+pub(crate) fn type_cost(instance: &Instance, t: u32) -> u32
     ensures value { result ≡ cost_at instance.now t }
     ensures small { result ≤ MAX_VALUE }
 {

@@ -7,6 +7,7 @@ mod costs;
 mod fault;
 mod floors;
 mod instances;
+mod joining;
 mod laws;
 mod limits;
 mod numbers;
@@ -23,6 +24,7 @@ pub use costs::cost;
 pub use fault::ReadFault;
 pub use floors::material_bound;
 pub use instances::{BinType, Instance, Item};
+pub use joining::join_bins;
 pub use laws::{
     best_type_gives_floor, floors_come_out, material_is_floor, no_place_no_packing, packings_fit,
     single_is_reached,

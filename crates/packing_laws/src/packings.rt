@@ -76,6 +76,12 @@ impl Packing {
         self.bins.as_slice()
     }
 
+    pub(crate) fn into_bins(self) -> Vec<Bin>
+        ensures { result.items ≡ self }
+    {
+        self.bins
+    }
+
     /// The allocator that the bins were made with.
     pub(crate) fn allocator(&self) -> Global {
         *self.bins.allocator()

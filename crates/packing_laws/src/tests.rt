@@ -4,8 +4,9 @@ ghost use Rattle.std.specs.Prelude.{◌≡◌, IfOk};
 
 use crate::{
     Bin, BinType, Count, Counts, Instance, Item, Numbers, Packing, Vectors, best_type_gives_floor,
-    cost, fits, floors_come_out, homeless_item, is_packing, material_bound, material_is_floor,
-    no_place_no_packing, packings_fit, single_cost, single_is_reached, tidy, units_apart,
+    cost, fits, floors_come_out, homeless_item, is_packing, join_bins, material_bound,
+    material_is_floor, no_place_no_packing, packings_fit, single_cost, single_is_reached, tidy,
+    units_apart,
 };
 use arc_num::Memory;
 use std::alloc::Global;
@@ -375,6 +376,60 @@ fn counts_and_bins_out_of_order(rt: HostRuntime) -> Result<(), Fail> {
         counted_bin(alloc, 1, 3, &[count_of(1, 1, 1)])?,
         counted_bin(alloc, 2, 1, &[count_of(1, 1, 2), count_of(2, 1, 2)])?,
     ]?;
+    assert!(rt; are_equal(packing.bins(), expected.as_slice()));
+    Ok(())
+}
+
+/// Tidies a packing and joins its bins. False where it is none.
+fn join_tidied(instance: &Instance, packing: &mut Packing) -> Result<bool, Memory> {
+    instance.known();
+    packings_fit();
+    if is_packing(instance, packing) {
+        tidy(packing)?;
+        join_bins(instance, packing)?;
+        Ok(true)
+    } else {
+        Ok(false)
+    }
+}
+
+#[test]
+fn bins_joined_with_their_like(rt: HostRuntime) -> Result<(), Fail> {
+    let alloc = rt.alloc();
+    let pair = bin(alloc, 1, 1, &[(1, 2)])?;
+    let pairs = bin(alloc, 1, 2, &[(1, 2)])?;
+    let single = bin(alloc, 1, 1, &[(1, 1)])?;
+    for (times, expected) in [
+        (2, vec![in alloc; pair]?),
+        (5, vec![in alloc; single, pairs]?),
+    ] {
+        let instance = plain(alloc, &[10], None, times, &[5])?.ok_or("an instance")?;
+        let mut packing = Packing::new(vec![in alloc; bin(alloc, 1, times, &[(1, 1)])?]?);
+        assert!(rt; join_tidied(&instance, &mut packing)?);
+        assert!(rt; are_equal(packing.bins(), expected.as_slice()));
+    }
+    Ok(())
+}
+
+#[test]
+fn bins_of_two_types_joined_in_the_cheaper(rt: HostRuntime) -> Result<(), Fail> {
+    let alloc = rt.alloc();
+    let types = vec![in alloc;
+        bin_type(alloc, &[10], 3, None)?,
+        bin_type(alloc, &[12], 2, None)?,
+    ]?;
+    let forms = vec![in alloc; Numbers::new(vec![in alloc; 5]?)]?;
+    let items = vec![in alloc;
+        Item {
+            demand: 2,
+            forms: Vectors::new(forms)
+        },
+    ]?;
+    let instance = Instance::new(1, types, items).ok_or("an instance")?;
+    let bins = vec![in alloc; bin(alloc, 1, 1, &[(1, 1)])?, bin(alloc, 2, 1, &[(1, 1)])?]?;
+    let mut packing = Packing::new(bins);
+    assert!(rt; join_tidied(&instance, &mut packing)?);
+    let expected = vec![in alloc; bin(alloc, 2, 1, &[(1, 2)])?]?;
     assert!(rt; are_equal(packing.bins(), expected.as_slice()));
     Ok(())
 }

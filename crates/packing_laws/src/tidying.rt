@@ -59,7 +59,7 @@ fn lines_of(alloc: Global, bins: &[Bin]) -> Result<Vec<Line>, Memory>
 }
 
 /// The same content with each form once, in order, and no count of 0.
-fn tidy_counts(alloc: Global, counts: &[Count]) -> Result<Vec<Count>, Memory>
+pub(crate) fn tidy_counts(alloc: Global, counts: &[Count]) -> Result<Vec<Count>, Memory>
     requires { units_in counts.now < 2 ^ 32 }
     ensures tidy { IfOk result (λ v. IsTidyContent v.items) }
     ensures same { IfOk result (λ v. SameContent counts.now v.items) }
