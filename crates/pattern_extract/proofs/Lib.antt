@@ -7,3 +7,5 @@ pub mod Apart
 pub mod Drained
 pub mod Moves
 pub mod RunSums
+pub mod Reducing
+pub mod Trimming

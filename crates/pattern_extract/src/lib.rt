@@ -4,6 +4,7 @@
 mod paths;
 mod runs;
 mod takings;
+mod trims;
 mod walks;
 
 pub use paths::paths_of;
