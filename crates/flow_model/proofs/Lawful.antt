@@ -1,6 +1,6 @@
 -- The program of a model keeps the rules of programs.
-use Rattle.std.proofs.Common.{◌≡◌, ◌≢◌, ◌⊎◌, ℕ, zero, suc, ◌+◌, ◌-◌, ◌*◌, ◌^◌, ◌<◌, ◌≤◌, min, Bool, true, false, cond, ◌==◌, ltb, List, [], ◌∷◌, ◌++◌, length, map, get_or, refl, sym, ap, ◌∙◌, subst, inl, inr, ⊎_elim, rules, arith, All, sum_by, Option, None, Some, ℤ, pos, negsuc}
-use Rattle.std.specs.Prelude.{AllPairs, slice_get, nat_abs, codes}
+use Rattle.std.proofs.Common.{◌≡◌, ◌≢◌, ◌⊎◌, ℕ, zero, suc, ◌+◌, ◌-◌, ◌*◌, ◌^◌, ◌<◌, ◌≤◌, cond, ◌==◌, ltb, List, [], ◌∷◌, ◌++◌, length, map, get_or, refl, sym, ap, ◌∙◌, subst, inl, inr, ⊎_elim, arith, All, sum_by, Option, None, Some, pos, negsuc}
+use Rattle.std.specs.Prelude.{AllPairs, slice_get, codes}
 use Rattle.std.specs.List.{enumerate_from}
 use Rattle.std.proofs.lemmas.Int.{ints}
 use Rattle.std.proofs.Math.Nat.{mul-le-mul_right}
@@ -9,11 +9,10 @@ use Rattle.std.proofs.lemmas.Option.{slice_get-get_or}
 use Rattle.std.proofs.lemmas.List.{append-nil, length-map, get_or_default, get_or_past}
 use Rattle.std.proofs.lemmas.List.Sums.{sum_by-le}
 use Rattle.std.proofs.lemmas.List.FromFn.{length-enumerate_from, get_or-enumerate_from}
-use Rattle.std.proofs.lemmas.List.Elements.{All-cons, All-nil, All-append, All-weaker}
+use Rattle.std.proofs.lemmas.List.Elements.{All-cons, All-nil, All-weaker}
 use Rattle.std.proofs.lemmas.List.Kept.{AllPairs-cons}
 use Rattle.arc_num.specs.declared.TheConstants.{MAX_DEMAND, MAX_ITEMS}
 use Rattle.packing_laws.specs.declared.instances.Item.{Item}
-use Rattle.packing_laws.specs.declared.instances.BinType.{BinType}
 use Rattle.packing_laws.specs.Instances.{InstanceValue, IsInstance, IsAmong, type_at, item_at, units_of}
 use Rattle.packing_laws.specs.Packings.{cost_at}
 use Rattle.flow_graph.specs.declared.parts.ArcKind.{ArcKind}
@@ -26,8 +25,8 @@ use Rattle.flow_model.specs.declared.programs.Column.{Column}
 use Rattle.flow_model.specs.Boxes.{limited, upper_of}
 use Rattle.flow_model.specs.Flows.{arc_cost}
 use Rattle.flow_model.specs.Models.{node_place, item_place, node_row, item_row, model_rows, model_columns, moves, entries_of, arc_name, arc_column, program_of_model, ModelsArePrograms}
-use Rattle.flow_model.specs.Programs.{IsName, IsNumber, IsRow, IsEntry, IsColumn, IsProgram, row_names, column_names}
-use Rattle.flow_model.specs.Places.{IsBetween, IsArcOf, GraphKnown}
+use Rattle.flow_model.specs.Programs.{IsRow, IsEntry, IsColumn, row_names, column_names}
+use Rattle.flow_model.specs.Places.{IsArcOf, GraphKnown}
 use Rattle.flow_model.proofs.ArcsKnown.{graph_known, arcs_known}
 use Rattle.flow_model.proofs.NodePlaces.{place_fits}
 use Rattle.flow_model.proofs.Solutions.{row_node, row_item, row_cases, rows_long, some_same, source, low_node, high_node}

@@ -1,5 +1,5 @@
 -- The places of nodes: one for each node of each type, in order.
-use Rattle.std.proofs.Common.{◌≡◌, ◌⊎◌, ℕ, zero, suc, ◌+◌, ◌-◌, ◌*◌, ◌<◌, ◌≤◌, Bool, true, false, cond, ◌==◌, ◌&&◌, List, [], ◌∷◌, length, get_or, take, refl, sym, ap, ◌∙◌, subst, inl, inr, ⊎_elim, rules, arith, All, sum_by}
+use Rattle.std.proofs.Common.{◌≡◌, ℕ, ◌+◌, ◌-◌, ◌*◌, ◌<◌, ◌≤◌, Bool, true, false, cond, ◌==◌, ◌&&◌, List, [], ◌∷◌, length, get_or, take, refl, sym, ap, ◌∙◌, subst, ⊎_elim, arith, All, sum_by}
 use Rattle.std.proofs.lemmas.Bool.{cases_eq, cases_order, eq-eqb, ne_eqb, and_from}
 use Rattle.std.proofs.lemmas.List.{take-take}
 use Rattle.std.proofs.lemmas.List.Sums.{sum_by_more, sum_by-take-le}
@@ -9,10 +9,10 @@ use Rattle.flow_graph.specs.declared.parts.ArcKind.{ArcKind}
 use Rattle.flow_graph.specs.declared.parts.ArcKind.TheVariants.{Bin, Loss, Piece}
 use Rattle.flow_graph.specs.Arcs.{TypeValue, IsFlowGraph, flow_type, numbered}
 use Rattle.flow_graph.specs.Faithful.{GraphOf}
-use Rattle.flow_model.specs.Flows.{weigh_arcs, carries, comes_in, goes_out, total_of}
+use Rattle.flow_model.specs.Flows.{weigh_arcs, comes_in, goes_out}
 use Rattle.flow_model.specs.Models.{node_place}
 use Rattle.flow_model.specs.Places.{IsBetween, IsArcOf, GraphKnown, AreStarts}
-use Rattle.flow_model.specs.Tallies.{TallyValue, IsTallyOf, IsTypeIn, IsPlaced, Holds, IsFilled, tail_in, head_in}
+use Rattle.flow_model.specs.Tallies.{TallyValue, IsTallyOf, IsPlaced, Holds, IsFilled, tail_in, head_in}
 use Rattle.flow_model.proofs.ArcsKnown.{graph_known, arcs_known}
 
 -- how many nodes the first types have

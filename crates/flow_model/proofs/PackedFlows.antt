@@ -1,18 +1,18 @@
 -- Each packing without empty bins is a flow: the sum of one path for each bin.
-use Rattle.std.proofs.Common.{◌≡◌, ℕ, zero, suc, ◌+◌, ◌-◌, ◌*◌, ◌<◌, ◌≤◌, min, Bool, true, false, cond, ◌==◌, List, [], ◌∷◌, ◌++◌, length, map, get_or, take, refl, sym, ap, ◌∙◌, subst, inl, inr, ⊎_elim, arith, All, sum_by, Option, None, Some}
-use Rattle.std.specs.Prelude.{count_by, IfSome, slice_get}
-use Rattle.std.specs.List.{AllZip, flat_map, range_with_len}
-use Rattle.std.proofs.lemmas.Bool.{cases_eq, eq-eqb, ne_eqb, cond-true, cond-false}
+use Rattle.std.proofs.Common.{◌≡◌, ℕ, zero, suc, ◌+◌, ◌-◌, ◌<◌, ◌≤◌, cond, ◌==◌, List, [], ◌∷◌, length, get_or, take, refl, sym, ap, ◌∙◌, ⊎_elim, arith, All, sum_by, Option, None, Some}
+use Rattle.std.specs.Prelude.{count_by, IfSome}
+use Rattle.std.specs.List.{AllZip, flat_map}
+use Rattle.std.proofs.lemmas.Bool.{cases_eq, eq-eqb, cond-true}
 use Rattle.std.proofs.lemmas.Option.{slice_get-get_or}
-use Rattle.std.proofs.lemmas.List.{take_all, length-map}
+use Rattle.std.proofs.lemmas.List.{take_all}
 use Rattle.std.proofs.lemmas.List.Sums.{sum_by-cons, sum_by-append, get_or-le-sum_by, count_by-le-length}
-use Rattle.std.proofs.lemmas.List.FromFn.{length-range_with_len, length-map-range_with_len, get_or-map-range_with_len}
-use Rattle.std.proofs.lemmas.List.Elements.{All-append, All-nil, All-cons, All-head, All-tail}
+use Rattle.std.proofs.lemmas.List.FromFn.{length-map-range_with_len, get_or-map-range_with_len}
+use Rattle.std.proofs.lemmas.List.Elements.{All-append, All-nil, All-head, All-tail}
 use Rattle.packing_laws.specs.declared.instances.Item.{Item}
 use Rattle.packing_laws.specs.declared.packings.Count.{Count}
-use Rattle.packing_laws.specs.Instances.{InstanceValue, IsInstance, IsAmong, item_at, type_at, units_of}
+use Rattle.packing_laws.specs.Instances.{InstanceValue, IsAmong, item_at, type_at, units_of}
 use Rattle.packing_laws.specs.Packings.{Content, Bins, Fits, IsWithin, IsPacking, all_of, used_of, count_of_item, cost_of, cost_at}
-use Rattle.packing_laws.specs.Printed.{SameContent, units_in}
+use Rattle.packing_laws.specs.Printed.{units_in}
 use Rattle.packing_laws.proofs.Sums.{sum_by-flat_map, sum_to, sum_to-add, sum_to-le, sum_by-by_number}
 use Rattle.flow_graph.specs.declared.parts.ArcKind.{ArcKind}
 use Rattle.flow_graph.specs.declared.parts.ArcKind.TheVariants.{Bin, Loss, Piece}
@@ -21,8 +21,8 @@ use Rattle.flow_graph.specs.Chords.{range_at}
 use Rattle.flow_graph.specs.Faithful.{IsFaithful}
 use Rattle.flow_graph.proofs.Places.{arc_at-suc, path_numbers}
 use Rattle.flow_model.specs.Boxes.{limited, upper_of, root_ranges}
-use Rattle.flow_model.specs.Flows.{IsFlow, IsBounded, weigh_arcs, comes_in, goes_out, carries, arc_cost, flow_cost}
-use Rattle.flow_model.specs.Packed.{IsWayOf, IsSumOfPaths, FlowOfPacking, PackingsAreFlows}
+use Rattle.flow_model.specs.Flows.{IsBounded, weigh_arcs, comes_in, goes_out, carries, arc_cost, flow_cost}
+use Rattle.flow_model.specs.Packed.{IsWayOf, FlowOfPacking, PackingsAreFlows}
 use Rattle.flow_model.proofs.Counts.{at, counts_from, weigh_counts}
 use Rattle.flow_model.proofs.Ways.{one_if, most, way_conserved, way_cost, way_carries, way_most}
 use Rattle.flow_model.specs.Places.{IsArcOf}

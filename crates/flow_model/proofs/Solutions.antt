@@ -1,13 +1,13 @@
 -- The solutions of the program of a model are the flows.
-use Rattle.std.proofs.Common.{◌≡◌, ◌≢◌, ◌⊎◌, ℕ, zero, suc, ◌+◌, ◌-◌, ◌*◌, ◌<◌, ◌≤◌, Bool, true, false, cond, ◌==◌, ◌&&◌, ltb, List, [], ◌∷◌, ◌++◌, length, map, get_or, take, drop, refl, sym, ap, ◌∙◌, subst, inl, inr, ⊎_elim, rules, arith, All, sum_by, Some, length-append, ℤ, pos, negsuc, ◌+ℤ◌, ◌-ℤ◌, ◌*ℤ◌, neg_ℤ, ◌≤ℤ◌, append-nil, append_assoc}
-use Rattle.std.specs.Prelude.{◌↔◌, slice_get, option_map}
+use Rattle.std.proofs.Common.{◌≡◌, ◌⊎◌, ℕ, zero, suc, ◌+◌, ◌-◌, ◌*◌, ◌<◌, ◌≤◌, Bool, true, false, cond, ◌==◌, ◌&&◌, ltb, List, [], ◌∷◌, ◌++◌, length, map, get_or, take, drop, refl, sym, ap, ◌∙◌, subst, inl, inr, ⊎_elim, arith, All, sum_by, Some, length-append, ℤ, pos, negsuc, ◌+ℤ◌, ◌-ℤ◌, ◌*ℤ◌, neg_ℤ, ◌≤ℤ◌}
+use Rattle.std.specs.Prelude.{slice_get, option_map}
 use Rattle.std.specs.List.{enumerate_from}
 use Rattle.std.proofs.Math.Nat.{add-mul}
 use Rattle.std.proofs.lemmas.Int.{ints}
-use Rattle.std.proofs.lemmas.Bool.{cases_lt, cases_eq, cases_Bool, eq-eqb, ne_eqb, eqb-true, cond-true, cond-false, lt-ltb, le-ltb}
-use Rattle.std.proofs.lemmas.Option.{slice_get-map, slice_get-get_or, slice_get_within}
-use Rattle.std.proofs.lemmas.List.{length-map, take_all, take-append-drop, length-take-le, map-append, drop_more}
-use Rattle.std.proofs.lemmas.List.Sums.{sum_by-cons, sum_by_more}
+use Rattle.std.proofs.lemmas.Bool.{cases_lt, cases_eq, eq-eqb, ne_eqb, cond-true, cond-false, lt-ltb, le-ltb}
+use Rattle.std.proofs.lemmas.Option.{slice_get-map}
+use Rattle.std.proofs.lemmas.List.{length-map, take_all, take-append-drop}
+use Rattle.std.proofs.lemmas.List.Sums.{sum_by-cons}
 use Rattle.std.proofs.lemmas.List.Elements.{All-head, All-tail}
 use Rattle.packing_laws.specs.Instances.{InstanceValue, IsInstance, IsAmong, item_at}
 use Rattle.flow_graph.specs.declared.parts.ArcKind.{ArcKind}
@@ -18,15 +18,14 @@ use Rattle.flow_graph.proofs.Places.{slice_get-append-add, slice_get-append-left
 use Rattle.flow_model.specs.declared.programs.Row.{Row}
 use Rattle.flow_model.specs.declared.programs.Entry.{Entry}
 use Rattle.flow_model.specs.declared.programs.Column.{Column}
-use Rattle.flow_model.specs.declared.programs.Program.{Program}
 use Rattle.flow_model.specs.Boxes.{upper_of}
 use Rattle.flow_model.specs.Flows.{IsFlow, weigh_arcs, comes_in, goes_out, carries, arc_cost, flow_cost, up_to, nodes_from, all_nodes}
-use Rattle.flow_model.specs.Models.{node_place, item_place, node_row, item_row, model_rows, model_columns, moves, entries_of, arc_column, program_of_model, SolutionsAreFlows}
+use Rattle.flow_model.specs.Models.{node_place, item_place, node_row, item_row, model_rows, moves, entries_of, arc_column, program_of_model, SolutionsAreFlows}
 use Rattle.flow_model.specs.Programs.{entry_in, weigh, row_sum, objective_of, Meets, AreWithin, IsSolution}
 use Rattle.flow_model.specs.Places.{IsBetween, IsArcOf, GraphKnown}
 use Rattle.flow_model.proofs.ArcsKnown.{graph_known, arcs_known}
 use Rattle.flow_model.proofs.NodePlaces.{place_test, place_fits}
-use Rattle.flow_model.proofs.RowLists.{nodes_from_more, nodes_from-append, map-map, starts_more}
+use Rattle.flow_model.proofs.RowLists.{nodes_from_more, nodes_from-append, starts_more}
 use Rattle.flow_model.proofs.BrokenRows.{bounded_at}
 use Rattle.flow_model.proofs.Ways.{one_if}
 

@@ -1,5 +1,5 @@
 -- The program of an instance over its numbered arcs: a row for each node and each item, a column for each arc.
-use Rattle.std.specs.Prelude.{◌≡◌, ◌↔◌, ℕ, ◌+◌, ◌-◌, ◌==◌, nat_lt, if◌then◌else◌, ℤ, pos, negsuc, List, [], ◌∷◌, ◌++◌, length, map, take, sum_by, decimal, codes}
+use Rattle.std.specs.Prelude.{◌≡◌, ◌↔◌, ℕ, ◌+◌, ◌-◌, ◌==◌, nat_lt, if◌then◌else◌, pos, negsuc, List, [], ◌∷◌, ◌++◌, length, map, take, sum_by, decimal, codes}
 use Rattle.std.specs.List.{enumerate_from}
 use Rattle.packing_laws.specs.Instances.{InstanceValue, IsInstance, item_at}
 use Rattle.flow_graph.specs.declared.parts.ArcKind.{ArcKind}

@@ -1,7 +1,7 @@
 -- A model that is worked by hand: three units of one item, of which a bin holds two.
-use Rattle.std.specs.Prelude.{◌≡◌, ℕ, List, [], ◌∷◌, ◌++◌, None, pos, negsuc, map, replicate, ℤ}
-use Rattle.packing_laws.specs.Instances.{InstanceValue, IsInstance}
-use Rattle.flow_graph.specs.Arcs.{TypeValue, IsFlowType, IsFlowGraph}
+use Rattle.std.specs.Prelude.{◌≡◌, ℕ, List, [], ◌∷◌, None, pos, negsuc, map, replicate, ℤ}
+use Rattle.packing_laws.specs.Instances.{InstanceValue}
+use Rattle.flow_graph.specs.Arcs.{TypeValue, IsFlowType}
 use Rattle.flow_graph.specs.Faithful.{GraphOf}
 use Rattle.flow_graph.specs.Worked.{up_to_two}
 use Rattle.flow_model.specs.declared.programs.RowKind.{RowKind}
