@@ -4,3 +4,4 @@ pub mod PrintLemmas
 pub mod RunLemmas
 pub mod ReportLemmas
 pub mod LargeRuns
+pub mod Exported

@@ -22,7 +22,7 @@ use crate::words::Command;
 use arc_compile::{CompileFault, Compiled, compile, level_size};
 use arc_num::Memory;
 use first_fit::first_fit;
-use flow_model::{models_are_programs, packings_are_flows, program_of, solutions_are_flows};
+use flow_model::{packings_are_flows, program_of, solutions_are_flows};
 use mps_text::{write_mps, written_is_read};
 use packing_laws::{
     Instance, Packing, cost, homeless_item, join_bins, material_bound, material_is_floor,
@@ -192,7 +192,6 @@ fn model_report(alloc: Global, instance: &Instance, compiled: &Compiled) -> Resu
 {
     instance.known();
     compiled.graph.known();
-    models_are_programs();
     solutions_are_flows();
     packings_are_flows();
     written_is_read();
