@@ -137,7 +137,7 @@ fn solve_padded<R: Threads + Sync>(
 }
 
 #[test]
-fn solve_packs_each_unit_by_itself(rt: HostRuntime) -> Result<(), Fail> {
+fn solve_prints_a_first_fit(rt: HostRuntime) -> Result<(), Fail> {
     for (text, status, out) in [
         (
             "1 10 1 6 3",
@@ -151,6 +151,16 @@ fn solve_packs_each_unit_by_itself(rt: HostRuntime) -> Result<(), Fail> {
             Status::Done,
             "optimal 2\n1 type 1: 1.1*1\n1 type 1: 2.1*1\n",
         ),
+        (
+            "2 5 5 2 3 2 2 2 3 2",
+            Status::Done,
+            "optimal 2\n2 type 1: 1.1*1 2.1*1\n",
+        ),
+        (
+            "1 10 2 4 2 3 4",
+            Status::Done,
+            "optimal 2\n2 type 1: 1.1*1 2.1*2\n",
+        ),
     ] {
         let outcome = run_over(&rt, rt.alloc(), "solve a", "a", text)?;
         assert!(rt; outcome.is(status, out, ""), "{text}");
@@ -161,17 +171,20 @@ fn solve_packs_each_unit_by_itself(rt: HostRuntime) -> Result<(), Fail> {
 }
 
 #[test]
-fn solve_takes_the_cheapest_type(rt: HostRuntime) -> Result<(), Fail> {
+fn solve_joins_bins(rt: HostRuntime) -> Result<(), Fail> {
     for (text, out) in [
-        ("1 1 2 3 -1 1 1 3 1", "bracket 5 9\n3 type 1: 1.1*1\n"),
+        (
+            "1 1 2 3 -1 1 1 3 1",
+            "bracket 5 6\n1 type 1: 1.1*1\n1 type 1: 1.1*2\n",
+        ),
         ("1 1 10 1 1 1 1 2 6", "bracket 2 none\n"),
         (
             "1 2 10 1 1 10 5 -1 1 1 2 6",
-            "bracket 2 10\n2 type 2: 1.1*1\n",
+            "bracket 2 6\n1 type 1: 1.1*1\n1 type 2: 1.1*1\n",
         ),
         (
             "2 1 3 3 1 -1 1 2 2 3 0 0 3",
-            "bracket 0 2\n2 type 1: 1.1*1\n",
+            "bracket 0 1\n1 type 1: 1.1*1 1.2*1\n",
         ),
     ] {
         let outcome = run_over(&rt, rt.alloc(), "solve a.mvp", "a.mvp", text)?;
@@ -226,6 +239,20 @@ fn compile_counts_nodes_and_arcs(rt: HostRuntime) -> Result<(), Fail> {
     ] {
         let outcome = run_over(&rt, rt.alloc(), words, name, text)?;
         assert!(rt; outcome.is(Status::Done, out, ""), "{words} {text}");
+    }
+    Ok(())
+}
+
+#[test]
+fn export_prints_the_model(rt: HostRuntime) -> Result<(), Fail> {
+    let text = "NAME vpack\nROWS\n N COST\n E N1_1\n E N1_2\n E N1_3\n G D1\nCOLUMNS\n\
+         \x20MARK1 'MARKER' 'INTORG'\n Z1 COST 3\n Z1 N1_1 1\n Z1 N1_3 -1\n F2 N1_1 -1\n F2 N1_2 1\n\
+         \x20F2 D1 1\n F3 N1_1 -1\n F3 N1_3 1\n F4 N1_2 -1\n F4 N1_3 1\n F5 N1_2 -1\n F5 N1_3 1\n\
+         \x20F5 D1 1\n MARK2 'MARKER' 'INTEND'\nRHS\n RHS D1 3\nBOUNDS\n UP BND Z1 3\n UP BND F2 3\n\
+         \x20UP BND F3 3\n UP BND F4 3\n UP BND F5 3\nENDATA\n";
+    for (words, name) in [("export a.mvp", "a.mvp"), ("export --mvp a", "a")] {
+        let outcome = run_over(&rt, rt.alloc(), words, name, "1 1 2 3 -1 1 1 3 1")?;
+        assert!(rt; outcome.is(Status::Done, text, ""), "{words}");
     }
     Ok(())
 }
