@@ -9,3 +9,6 @@ pub mod Moves
 pub mod RunSums
 pub mod Reducing
 pub mod Trimming
+pub mod PathContents
+pub mod Surplus
+pub mod Extracting

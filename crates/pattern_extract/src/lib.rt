@@ -1,11 +1,15 @@
 //! Flows as packings: a flow is taken apart into paths, and the paths' contents are trimmed to what is asked for.
 #![tactic(auto)]
 
+mod contents;
+mod extracts;
 mod paths;
 mod runs;
+mod surpluses;
 mod takings;
 mod trims;
 mod walks;
 
+pub use extracts::{ExtractFault, extract};
 pub use paths::paths_of;
 pub use runs::PathRun;
