@@ -1,6 +1,6 @@
 -- What each arc of a graph of an instance keeps, and how many nodes there are.
-use Rattle.std.proofs.Common.{◌≡◌, ◌⊎◌, ℕ, zero, suc, ◌+◌, ◌-◌, ◌*◌, ◌<◌, ◌≤◌, Bool, true, false, cond, ◌==◌, List, [], ◌∷◌, length, get_or, take, refl, sym, ap, ◌∙◌, subst, inl, inr, ⊎_elim, rules, arith, All}
-use Rattle.std.specs.Prelude.{Some, Contains, sum_by, slice_get}
+use Rattle.std.proofs.Common.{◌≡◌, ℕ, zero, suc, ◌+◌, ◌-◌, ◌*◌, ◌<◌, ◌≤◌, cond, ◌==◌, List, [], ◌∷◌, length, get_or, refl, sym, ap, ◌∙◌, subst, ⊎_elim, arith, All}
+use Rattle.std.specs.Prelude.{Some, Contains, sum_by}
 use Rattle.std.proofs.lemmas.Bool.{cases_eq, eq-eqb, ne_eqb, cond-true}
 use Rattle.std.proofs.lemmas.Option.{slice_get-get_or}
 use Rattle.std.proofs.lemmas.List.Sums.{sum_by-cons, get_or-le-sum_by}
@@ -10,10 +10,10 @@ use Rattle.packing_laws.specs.Packings.{Exists}
 use Rattle.flow_graph.specs.declared.parts.TypeArc.{TypeArc}
 use Rattle.flow_graph.specs.declared.parts.ArcKind.{ArcKind}
 use Rattle.flow_graph.specs.declared.parts.ArcKind.TheVariants.{Bin, Loss, Piece}
-use Rattle.flow_graph.specs.Arcs.{TypeValue, IsFlowType, IsFlowGraph, flow_type, kind_of, numbered, arc_at, first_arc, last_arc}
+use Rattle.flow_graph.specs.Arcs.{TypeValue, IsFlowType, IsFlowGraph, flow_type, kind_of, numbered, arc_at, first_arc}
 use Rattle.flow_graph.specs.Faithful.{GraphOf, unit_of}
 use Rattle.packing_laws.proofs.Sums.{sum_to, sum_to-add, sum_to-one, sum_to-le}
-use Rattle.flow_graph.proofs.Numbers.{sum_by-bins, few_numbered}
+use Rattle.flow_graph.proofs.Numbers.{few_numbered}
 use Rattle.flow_graph.proofs.Places.{arc_at-suc, has_numbers, some_type}
 use Rattle.flow_model.specs.Places.{IsBetween, IsArcOf, NamesType, GraphKnown}
 
@@ -107,9 +107,9 @@ nodes_need_arcs arcs m leaves =
     let same : cond {A = ℕ} ((get_or arcs has.0 e).tail == v) 1 0 ≡ 1 = ap (λ (f : TypeArc). cond (f.tail == v) 1 0) has.2 ∙ here in
     omega (arith, there, same)) in
     omega (arith, ones m, each, all) where
-  ones : (m : ℕ) → sum_to (λ v. 1) m ≡ m
-  ones zero = refl
-  ones (suc m) = let rest = ones m in omega (arith, rest)
+      ones : (m : ℕ) → sum_to (λ v. 1) m ≡ m
+      ones zero = refl
+      ones (suc m) = let rest = ones m in omega (arith, rest)
 
 type_nodes : (x : TypeValue) → IsFlowType x → x.nodes ≤ length x.arcs + 1
 type_nodes x is =

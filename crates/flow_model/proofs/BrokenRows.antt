@@ -1,9 +1,9 @@
 -- The first row that does not hold, and the rows of the model one after the other.
-use Rattle.std.proofs.Common.{◌≡◌, ◌⊎◌, ℕ, zero, suc, ◌+◌, ◌-◌, ◌<◌, ◌≤◌, List, [], ◌∷◌, ◌++◌, length, map, get_or, take, drop, refl, sym, ap, ◌∙◌, subst, inl, inr, ⊎_elim, rules, arith, All, append_assoc, append-nil, length-append, None, Some, Option}
+use Rattle.std.proofs.Common.{◌≡◌, ℕ, zero, suc, ◌+◌, ◌-◌, ◌<◌, ◌≤◌, List, [], ◌∷◌, ◌++◌, length, map, get_or, take, drop, refl, sym, ap, ◌∙◌, subst, ⊎_elim, arith, All, append_assoc, append-nil, length-append, None, Some, Option}
 use Rattle.std.specs.Prelude.{◌↔◌, IsNone}
-use Rattle.std.proofs.lemmas.Bool.{cases_eq, cases_lt}
+use Rattle.std.proofs.lemmas.Bool.{cases_eq}
 use Rattle.std.proofs.lemmas.List.{map-append, length-map, take-append-drop, take_all, get_or_append_left, get_or-append-add, get_or_default}
-use Rattle.std.proofs.lemmas.List.Elements.{All-append, All-nil, All-cons, All-push, All-head, All-map}
+use Rattle.std.proofs.lemmas.List.Elements.{All-append, All-nil, All-push, All-head}
 use Rattle.packing_laws.specs.Instances.{InstanceValue, IsAmong, item_at}
 use Rattle.flow_graph.specs.Arcs.{TypeValue, flow_type, numbered}
 use Rattle.flow_graph.specs.declared.parts.ArcKind.{ArcKind}
@@ -111,10 +111,10 @@ range_is I g i d within =
     let e : i + 1 - 1 ≡ i = omega arith in
     let long = length-map (numbered g) (root_range I) in
     rw e (get_or_default (root_ranges I g) i (0, 0) (root_range I d) (omega (arith, within, long)) ∙ mapped (numbered g) i) where
-  mapped : (kinds : List ArcKind) (i : ℕ) → get_or (map (root_range I) kinds) i (root_range I d) ≡ root_range I (get_or kinds i d)
-  mapped [] i = refl
-  mapped (kind ∷ kinds) zero = refl
-  mapped (kind ∷ kinds) (suc i) = mapped kinds i
+      mapped : (kinds : List ArcKind) (i : ℕ) → get_or (map (root_range I) kinds) i (root_range I d) ≡ root_range I (get_or kinds i d)
+      mapped [] i = refl
+      mapped (kind ∷ kinds) zero = refl
+      mapped (kind ∷ kinds) (suc i) = mapped kinds i
 
 -- one number more
 pub each_more : (P : ℕ → Type 0) (n : ℕ) → ((k : ℕ) → IsAmong k n → P k) → P (n + 1) → (k : ℕ) → IsAmong k (n + 1) → P k

@@ -3,3 +3,10 @@ pub mod RowLists
 pub mod TallySums
 pub mod NodePlaces
 pub mod BrokenRows
+pub mod Counts
+pub mod Ways
+pub mod PackedFlows
+pub mod Solutions
+pub mod Names
+pub mod Lawful
+pub mod Examples

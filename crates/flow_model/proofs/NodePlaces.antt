@@ -1,5 +1,5 @@
 -- The places of nodes: one for each node of each type, in order.
-use Rattle.std.proofs.Common.{◌≡◌, ◌⊎◌, ℕ, zero, suc, ◌+◌, ◌-◌, ◌*◌, ◌<◌, ◌≤◌, Bool, true, false, cond, ◌==◌, ◌&&◌, List, [], ◌∷◌, length, get_or, take, refl, sym, ap, ◌∙◌, subst, inl, inr, ⊎_elim, rules, arith, All, sum_by}
+use Rattle.std.proofs.Common.{◌≡◌, ℕ, ◌+◌, ◌-◌, ◌*◌, ◌<◌, ◌≤◌, Bool, true, false, cond, ◌==◌, ◌&&◌, List, [], ◌∷◌, length, get_or, take, refl, sym, ap, ◌∙◌, subst, ⊎_elim, arith, All, sum_by}
 use Rattle.std.proofs.lemmas.Bool.{cases_eq, cases_order, eq-eqb, ne_eqb, and_from}
 use Rattle.std.proofs.lemmas.List.{take-take}
 use Rattle.std.proofs.lemmas.List.Sums.{sum_by_more, sum_by-take-le}
@@ -9,10 +9,10 @@ use Rattle.flow_graph.specs.declared.parts.ArcKind.{ArcKind}
 use Rattle.flow_graph.specs.declared.parts.ArcKind.TheVariants.{Bin, Loss, Piece}
 use Rattle.flow_graph.specs.Arcs.{TypeValue, IsFlowGraph, flow_type, numbered}
 use Rattle.flow_graph.specs.Faithful.{GraphOf}
-use Rattle.flow_model.specs.Flows.{weigh_arcs, carries, comes_in, goes_out, total_of}
+use Rattle.flow_model.specs.Flows.{weigh_arcs, comes_in, goes_out}
 use Rattle.flow_model.specs.Models.{node_place}
 use Rattle.flow_model.specs.Places.{IsBetween, IsArcOf, GraphKnown, AreStarts}
-use Rattle.flow_model.specs.Tallies.{TallyValue, IsTallyOf, IsTypeIn, IsPlaced, Holds, IsFilled, tail_in, head_in}
+use Rattle.flow_model.specs.Tallies.{TallyValue, IsTallyOf, IsPlaced, Holds, IsFilled, tail_in, head_in}
 use Rattle.flow_model.proofs.ArcsKnown.{graph_known, arcs_known}
 
 -- how many nodes the first types have
@@ -102,23 +102,23 @@ filled I g values tally instance is of room held =
     let known : GraphKnown I g = graph_known I g instance is of in
     record {
       comes = λ t v among node.
-      let fits = place_fits g t v among node in
-      let wide = room.comes in
-      let e : node_place g t v - 1 + 1 ≡ node_place g t v = omega (arith, fits.0) in
-      let sum = held.comes (node_place g t v - 1) (omega (arith, fits.0, fits.1, wide)) in
-      rw e at sum ∙ weigh_agree (λ kind. cond (head_in tally.starts kind == node_place g t v) 1 0) (λ kind. cond (comes_in t v kind) 1 0) (numbered g) values (All-weaker (IsArcOf (length I.items) g) (λ kind. cond {A = ℕ} (head_in tally.starts kind == node_place g t v) 1 0 ≡ cond (comes_in t v kind) 1 0) (λ kind own. ap (λ (b : Bool). cond {A = ℕ} b 1 0) (comes_test g (length I.items) known.sources t v among node tally.starts room.starts kind own)) (numbered g) arcs);
+          let fits = place_fits g t v among node in
+          let wide = room.comes in
+          let e : node_place g t v - 1 + 1 ≡ node_place g t v = omega (arith, fits.0) in
+          let sum = held.comes (node_place g t v - 1) (omega (arith, fits.0, fits.1, wide)) in
+          rw e at sum ∙ weigh_agree (λ kind. cond (head_in tally.starts kind == node_place g t v) 1 0) (λ kind. cond (comes_in t v kind) 1 0) (numbered g) values (All-weaker (IsArcOf (length I.items) g) (λ kind. cond {A = ℕ} (head_in tally.starts kind == node_place g t v) 1 0 ≡ cond (comes_in t v kind) 1 0) (λ kind own. ap (λ (b : Bool). cond {A = ℕ} b 1 0) (comes_test g (length I.items) known.sources t v among node tally.starts room.starts kind own)) (numbered g) arcs);
       goes = λ t v among node.
-      let fits = place_fits g t v among node in
-      let wide = room.goes in
-      let e : node_place g t v - 1 + 1 ≡ node_place g t v = omega (arith, fits.0) in
-      let sum = held.goes (node_place g t v - 1) (omega (arith, fits.0, fits.1, wide)) in
-      rw e at sum ∙ weigh_agree (λ kind. cond (tail_in tally.starts kind == node_place g t v) 1 0) (λ kind. cond (goes_out g t v kind) 1 0) (numbered g) values (All-weaker (IsArcOf (length I.items) g) (λ kind. cond {A = ℕ} (tail_in tally.starts kind == node_place g t v) 1 0 ≡ cond (goes_out g t v kind) 1 0) (λ kind own. ap (λ (b : Bool). cond {A = ℕ} b 1 0) (goes_test g (length I.items) known.sources t v among node tally.starts room.starts kind own)) (numbered g) arcs);
+          let fits = place_fits g t v among node in
+          let wide = room.goes in
+          let e : node_place g t v - 1 + 1 ≡ node_place g t v = omega (arith, fits.0) in
+          let sum = held.goes (node_place g t v - 1) (omega (arith, fits.0, fits.1, wide)) in
+          rw e at sum ∙ weigh_agree (λ kind. cond (tail_in tally.starts kind == node_place g t v) 1 0) (λ kind. cond (goes_out g t v kind) 1 0) (numbered g) values (All-weaker (IsArcOf (length I.items) g) (λ kind. cond {A = ℕ} (tail_in tally.starts kind == node_place g t v) 1 0 ≡ cond (goes_out g t v kind) 1 0) (λ kind own. ap (λ (b : Bool). cond {A = ℕ} b 1 0) (goes_test g (length I.items) known.sources t v among node tally.starts room.starts kind own)) (numbered g) arcs);
       items = λ i among.
-      let e : i - 1 + 1 ≡ i = omega (arith, among.0) in
-      let full = room.items in
-      let few = instance.item_count in
-      let sum = held.items (i - 1) (omega (arith, among.0, among.1, full, few)) in
-      rw e at sum;
+          let e : i - 1 + 1 ≡ i = omega (arith, among.0) in
+          let full = room.items in
+          let few = instance.item_count in
+          let sum = held.items (i - 1) (omega (arith, among.0, among.1, full, few)) in
+          rw e at sum;
     }
 
 placed_between : (g : List TypeValue) (starts : List ℕ) (n : ℕ) → AreStarts g starts → n ≡ sum_by (λ x. x.nodes) g → (t tail head : ℕ) → IsBetween g t tail head → ((1 ≤ t) × (t < length starts)) × IsAmong (get_or starts (t - 1) 0 + tail) n × IsAmong (get_or starts (t - 1) 0 + head) n

@@ -1,15 +1,15 @@
 -- The lists of rows and columns, one more element at a time.
-use Rattle.std.proofs.Common.{◌≡◌, ℕ, zero, suc, ◌+◌, ◌-◌, ◌<◌, ◌≤◌, List, [], ◌∷◌, ◌++◌, length, map, get_or, take, refl, sym, ap, ◌∙◌, subst, arith, append_assoc, append-nil, sum_by}
+use Rattle.std.proofs.Common.{◌≡◌, ℕ, ◌+◌, ◌-◌, ◌<◌, ◌≤◌, List, [], ◌∷◌, ◌++◌, length, map, get_or, take, refl, sym, ap, ◌∙◌, arith, append_assoc, append-nil, sum_by}
 use Rattle.std.specs.List.{enumerate_from}
 use Rattle.std.proofs.lemmas.List.{map-append, take_more, length-take-le}
 use Rattle.std.proofs.lemmas.List.Sums.{sum_by_more, sum_by_more_le}
-use Rattle.packing_laws.specs.Instances.{InstanceValue, IsAmong}
+use Rattle.packing_laws.specs.Instances.{InstanceValue}
 use Rattle.flow_graph.specs.declared.parts.ArcKind.{ArcKind}
 use Rattle.flow_graph.specs.Arcs.{TypeValue, flow_type}
 use Rattle.flow_model.specs.declared.programs.Row.{Row}
 use Rattle.flow_model.specs.declared.programs.Column.{Column}
 use Rattle.flow_model.specs.Flows.{up_to, nodes_from}
-use Rattle.flow_model.specs.Models.{node_row, arc_column, node_place}
+use Rattle.flow_model.specs.Models.{node_row, arc_column}
 
 pub map-map : {X Y Z : Type 0} (f : Y → Z) (h : X → Y) (xs : List X) → map f (map h xs) ≡ map (λ x. f (h x)) xs
 map-map f h [] = refl

@@ -1,7 +1,7 @@
 -- The tables of a tally hold the sums of the arcs so far.
-use Rattle.std.proofs.Common.{◌≡◌, ℕ, zero, suc, ◌+◌, ◌-◌, ◌*◌, ◌^◌, ◌<◌, ◌≤◌, Bool, true, false, cond, ◌==◌, List, [], ◌∷◌, length, get_or, set, take, refl, sym, ap, ◌∙◌, subst, ⊎_elim, arith, All}
-use Rattle.std.proofs.lemmas.Bool.{cases_lt, cases_eq, eq-eqb, ne_eqb, cond-true, cond-false}
-use Rattle.std.proofs.lemmas.List.{get_or-set_same, get_or-set_other, set_past, length-set, get_or_past}
+use Rattle.std.proofs.Common.{◌≡◌, ℕ, zero, suc, ◌+◌, ◌-◌, ◌*◌, ◌^◌, ◌<◌, ◌≤◌, cond, ◌==◌, List, [], ◌∷◌, length, get_or, set, take, refl, sym, ap, ◌∙◌, subst, ⊎_elim, arith}
+use Rattle.std.proofs.lemmas.Bool.{cases_eq, eq-eqb, ne_eqb, cond-true, cond-false}
+use Rattle.std.proofs.lemmas.List.{get_or-set_same, get_or-set_other, length-set}
 use Rattle.packing_laws.specs.Instances.{IsAmong}
 use Rattle.flow_graph.specs.declared.parts.ArcKind.{ArcKind}
 use Rattle.flow_graph.specs.declared.parts.ArcKind.TheVariants.{Bin, Loss, Piece}
@@ -23,7 +23,8 @@ raised_at sums p x j among = ⊎_elim
     let here : p - 1 ≡ j = omega (arith, same, among.0) in
     let one : cond {A = ℕ} (p == j + 1) 1 0 ≡ 1 = cond-true (p == j + 1) 1 0 (eq-eqb p (j + 1) same) in
     let there : get_or (set sums j (get_or sums j 0 + x)) j 0 ≡ get_or sums j 0 + x = get_or-set_same sums j (get_or sums j 0 + x) 0 (omega (arith, same, among.1)) in
-    rw (here, one) (omega (arith, there)))
+    let unit : get_or sums j 0 + x ≡ get_or sums j 0 + 1 * x = omega arith in
+    ap (λ (k : ℕ). get_or (set sums k (get_or sums k 0 + x)) j 0) here ∙ there ∙ unit ∙ ap (λ (n : ℕ). get_or sums j 0 + n * x) (sym one))
     (λ other.
     let none : cond {A = ℕ} (p == j + 1) 1 0 ≡ 0 = cond-false (p == j + 1) 1 0 (ne_eqb p (j + 1) other) in
     let there : get_or (raised sums p x) j 0 ≡ get_or sums j 0 = get_or-set_other sums (p - 1) j (get_or sums (p - 1) 0 + x) 0 (λ e. other (omega (arith, e, among.0))) in
@@ -80,18 +81,18 @@ module _ (old new : TallyValue) (kind : ArcKind) (x : ℕ) (placed : IsPlaced (l
       let far : length new.items ≡ length old.items = ap length more.items ∙ item_size old.items kind x in
       record {
         comes = λ j short.
-        let own : get_or old.comes j 0 ≡ weigh_arcs (λ k. cond (head_in old.starts k == j + 1) 1 0) (take i kinds) (take i values) = held.comes j (omega (arith, short, wide)) in
-        let at = raised_at old.comes (head_in old.starts kind) x j placed.head in
-        let step = next (λ k. cond (head_in old.starts k == j + 1) 1 0) in
-        rw (more.comes, more.starts) (at ∙ ap (λ (n : ℕ). n + cond (head_in old.starts kind == j + 1) 1 0 * x) own ∙ sym step);
+            let own : get_or old.comes j 0 ≡ weigh_arcs (λ k. cond (head_in old.starts k == j + 1) 1 0) (take i kinds) (take i values) = held.comes j (omega (arith, short, wide)) in
+            let at = raised_at old.comes (head_in old.starts kind) x j placed.head in
+            let step = next (λ k. cond (head_in old.starts k == j + 1) 1 0) in
+            rw (more.comes, more.starts) (at ∙ ap (λ (n : ℕ). n + cond (head_in old.starts kind == j + 1) 1 0 * x) own ∙ sym step);
         goes = λ j short.
-        let own : get_or old.goes j 0 ≡ weigh_arcs (λ k. cond (tail_in old.starts k == j + 1) 1 0) (take i kinds) (take i values) = held.goes j (omega (arith, short, long)) in
-        let at = raised_at old.goes (tail_in old.starts kind) x j at_tail in
-        let step = next (λ k. cond (tail_in old.starts k == j + 1) 1 0) in
-        rw (more.goes, more.starts) (at ∙ ap (λ (n : ℕ). n + cond (tail_in old.starts kind == j + 1) 1 0 * x) own ∙ sym step);
+            let own : get_or old.goes j 0 ≡ weigh_arcs (λ k. cond (tail_in old.starts k == j + 1) 1 0) (take i kinds) (take i values) = held.goes j (omega (arith, short, long)) in
+            let at = raised_at old.goes (tail_in old.starts kind) x j at_tail in
+            let step = next (λ k. cond (tail_in old.starts k == j + 1) 1 0) in
+            rw (more.goes, more.starts) (at ∙ ap (λ (n : ℕ). n + cond (tail_in old.starts kind == j + 1) 1 0 * x) own ∙ sym step);
         items = λ j short.
-        let own : get_or old.items j 0 ≡ weigh_arcs (λ k. cond (carries (j + 1) k) 1 0) (take i kinds) (take i values) = held.items j (omega (arith, short, far)) in
-        let at = item_at old.starts old.items kind x j items placed.of_type in
-        let step = next (λ k. cond (carries (j + 1) k) 1 0) in
-        rw more.items (at ∙ ap (λ (n : ℕ). n + cond (carries (j + 1) kind) 1 0 * x) own ∙ sym step);
+            let own : get_or old.items j 0 ≡ weigh_arcs (λ k. cond (carries (j + 1) k) 1 0) (take i kinds) (take i values) = held.items j (omega (arith, short, far)) in
+            let at = item_at old.starts old.items kind x j items placed.of_type in
+            let step = next (λ k. cond (carries (j + 1) k) 1 0) in
+            rw more.items (at ∙ ap (λ (n : ℕ). n + cond (carries (j + 1) kind) 1 0 * x) own ∙ sym step);
       }

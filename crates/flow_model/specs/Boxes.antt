@@ -1,5 +1,5 @@
 -- A range of whole numbers for each arc.
-use Rattle.std.specs.Prelude.{ℕ, ◌≤◌, min, List, map, Option, None, Some}
+use Rattle.std.specs.Prelude.{ℕ, min, List, map, Option, None, Some}
 use Rattle.packing_laws.specs.Instances.{InstanceValue, type_at, units_of}
 use Rattle.flow_graph.specs.declared.parts.ArcKind.{ArcKind}
 use Rattle.flow_graph.specs.declared.parts.ArcKind.TheVariants.{Bin, Loss, Piece}

@@ -5,3 +5,4 @@ pub mod Models
 pub mod Packed
 pub mod Places
 pub mod Tallies
+pub mod Worked

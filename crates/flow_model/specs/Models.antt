@@ -1,5 +1,5 @@
 -- The program of an instance over its numbered arcs: a row for each node and each item, a column for each arc.
-use Rattle.std.specs.Prelude.{◌≡◌, ◌↔◌, ℕ, ◌+◌, ◌-◌, ◌==◌, nat_lt, if◌then◌else◌, ℤ, pos, negsuc, List, [], ◌∷◌, ◌++◌, length, map, take, sum_by, decimal, codes}
+use Rattle.std.specs.Prelude.{◌≡◌, ◌↔◌, ℕ, ◌+◌, ◌-◌, ◌==◌, nat_lt, if◌then◌else◌, pos, negsuc, List, [], ◌∷◌, ◌++◌, length, map, take, sum_by, decimal, codes}
 use Rattle.std.specs.List.{enumerate_from}
 use Rattle.packing_laws.specs.Instances.{InstanceValue, IsInstance, item_at}
 use Rattle.flow_graph.specs.declared.parts.ArcKind.{ArcKind}
@@ -54,8 +54,8 @@ abbrev pub moves : ℕ → ℕ → List Entry
 moves tail head =
     if tail == head then []
     else (if nat_lt tail head
-        then record { row = tail; value = negsuc 0 } ∷ record { row = head; value = pos 1 } ∷ []
-        else record { row = head; value = pos 1 } ∷ record { row = tail; value = negsuc 0 } ∷ [])
+    then record { row = tail; value = negsuc 0 } ∷ record { row = head; value = pos 1 } ∷ []
+    else record { row = head; value = pos 1 } ∷ record { row = tail; value = negsuc 0 } ∷ [])
 
 -- what a unit on an arc adds in the rows
 abbrev pub entries_of : List TypeValue → ArcKind → List Entry

@@ -1,5 +1,5 @@
 -- Linear programs in whole numbers, and what solves them. Rows and columns are numbered from 1.
-use Rattle.std.specs.Prelude.{◌≡◌, ◌≢◌, ◌⊎◌, ℕ, ◌^◌, ◌-◌, ◌<◌, ◌≤◌, ◌==◌, if◌then◌else◌, ℤ, pos, ◌+ℤ◌, ◌*ℤ◌, ◌≤ℤ◌, nat_abs, List, [], ◌∷◌, length, map, All, AllPairs, slice_get, Some, codes}
+use Rattle.std.specs.Prelude.{◌≡◌, ◌≢◌, ℕ, ◌^◌, ◌-◌, ◌<◌, ◌≤◌, ◌==◌, if◌then◌else◌, ℤ, pos, ◌+ℤ◌, ◌*ℤ◌, ◌≤ℤ◌, nat_abs, List, [], ◌∷◌, length, map, All, AllPairs, slice_get, Some, codes}
 use Rattle.packing_laws.specs.Instances.{IsAmong}
 use Rattle.flow_model.specs.declared.programs.RowKind.{RowKind}
 use Rattle.flow_model.specs.declared.programs.RowKind.TheVariants.{Equal, Least, Most}

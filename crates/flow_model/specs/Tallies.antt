@@ -1,5 +1,5 @@
 -- The sums of a flow at nodes and items, kept in tables by place.
-use Rattle.std.specs.Prelude.{◌≡◌, ℕ, ◌+◌, ◌-◌, ◌*◌, ◌^◌, ◌<◌, ◌≤◌, ◌==◌, if◌then◌else◌, List, length, sum_by, slice_index, slice_set}
+use Rattle.std.specs.Prelude.{◌≡◌, ℕ, ◌+◌, ◌-◌, ◌<◌, ◌≤◌, ◌==◌, if◌then◌else◌, List, length, sum_by, slice_index, slice_set}
 use Rattle.arc_num.specs.declared.TheConstants.{MAX_ITEMS}
 use Rattle.packing_laws.specs.Instances.{InstanceValue, IsAmong}
 use Rattle.flow_graph.specs.declared.parts.ArcKind.{ArcKind}

@@ -13,7 +13,6 @@ use packing_laws::Instance;
 use std::alloc::Global;
 use std::marker::Model;
 
-
 /// A range for each arc, by number.
 #[derive(Debug, Drop)]
 pub struct FlowBox {
@@ -42,13 +41,6 @@ impl FlowBox {
         let _ranges = &self.ranges;
     }
 
-    /// How many arcs there are.
-    pub fn arc_count(&self) -> usize
-        ensures { result ≡ length self.now }
-    {
-        self.ranges.len()
-    }
-
     /// The range of the arc with this number.
     pub fn range(&self, a: u32) -> Option<(u32, u32)>
         ensures some { IsSome result ↔ IsAmong a (length self.now) }
@@ -72,11 +64,7 @@ impl FlowBox {
 }
 
 /// The widest ranges: no arc carries more than all units, and no bin arc more than the limit of its type.
-pub fn root_box(
-    alloc: Global,
-    instance: &Instance,
-    graph: &FlowGraph,
-) -> Result<FlowBox, Memory>
+pub fn root_box(alloc: Global, instance: &Instance, graph: &FlowGraph) -> Result<FlowBox, Memory>
     requires { GraphOf instance.now graph.now }
     ensures { IfOk result (λ ranges. ranges ≡ root_ranges instance.now graph.now) }
 {

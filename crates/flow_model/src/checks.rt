@@ -56,12 +56,7 @@ pub fn is_flow(instance: &Instance, graph: &FlowGraph, flow: &Flow, tally: &mut 
 }
 
 // The first node where what comes in is not what goes out.
-fn bad_node(
-    instance: &Instance,
-    graph: &FlowGraph,
-    flow: &Flow,
-    tally: &Tally,
-) -> Option<FlowRow>
+fn bad_node(instance: &Instance, graph: &FlowGraph, flow: &Flow, tally: &Tally) -> Option<FlowRow>
     requires nodes { sum_by (λ x. x.nodes) graph.now ≤ 1000064 }
     requires tally { IsTallyOf graph.now tally.now }
     requires sums { IsFilled instance.now graph.now flow.now.values tally.now }
@@ -101,12 +96,7 @@ fn bad_node_of(
 }
 
 // The first item of which less is carried than is asked for.
-fn bad_demand(
-    instance: &Instance,
-    graph: &FlowGraph,
-    flow: &Flow,
-    tally: &Tally,
-) -> Option<FlowRow>
+fn bad_demand(instance: &Instance, graph: &FlowGraph, flow: &Flow, tally: &Tally) -> Option<FlowRow>
     requires tally { IsTallyOf graph.now tally.now }
     requires sums { IsFilled instance.now graph.now flow.now.values tally.now }
     ensures { FirstBroken (Keeps instance.now graph.now flow.now.values) (map (λ i. Demand i) (up_to (length instance.now.items))) result }

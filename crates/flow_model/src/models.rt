@@ -5,10 +5,12 @@ ghost use Rattle.packing_laws.specs.Instances.{units_of};
 ghost use Rattle.flow_graph.specs.Faithful.{GraphOf};
 ghost use Rattle.flow_model.specs.Flows.{up_to, arc_cost};
 ghost use Rattle.flow_model.specs.Places.{AreStarts, IsArcOf, NamesType, GraphKnown};
+ghost use Rattle.flow_model.specs.Programs.{IsProgram};
 ghost use Rattle.flow_model.specs.Models.{node_name as node_name_of, item_name as item_name_of, arc_name as arc_name_of, node_row, item_row, model_rows, moves as moves_of, entries_of, item_place, arc_column, model_columns, program_of_model};
 
 use crate::boxes::upper;
 use crate::known::graph_known;
+use crate::laws::models_are_programs;
 use crate::listed::Listed;
 use crate::places::{node_count, node_place, node_starts};
 use crate::programs::{Column, Entry, Name, Program, Row, RowKind};
@@ -18,14 +20,14 @@ use packing_laws::Instance;
 use std::alloc::Global;
 
 /// The program: a row for each node and each item, and a column for each arc.
-pub fn program_of(
-    alloc: Global,
-    graph: &FlowGraph,
-    instance: &Instance,
-) -> Result<Program, Memory>
+pub fn program_of(alloc: Global, graph: &FlowGraph, instance: &Instance) -> Result<Program, Memory>
     requires { GraphOf instance.now graph.now }
-    ensures { IfOk result (λ program. program ≡ program_of_model instance.now graph.now) }
+    ensures value { IfOk result (λ program. program ≡ program_of_model instance.now graph.now) }
+    ensures lawful { IfOk result (λ program. IsProgram program) }
 {
+    instance.known();
+    graph.known();
+    models_are_programs();
     let rows = rows(alloc, graph, instance)?;
     let columns = columns(alloc, graph, instance)?;
     let objective = Vec::from_slice(alloc, b"COST")?;
@@ -187,7 +189,11 @@ fn entries(
     let entries = match *kind {
         ArcKind::Bin { t } => moves(alloc, starts[t as usize], node_place(starts, t, 1))?,
         ArcKind::Loss { t, tail, head } => {
-            moves(alloc, node_place(starts, t, tail), node_place(starts, t, head))?
+            moves(
+                alloc,
+                node_place(starts, t, tail),
+                node_place(starts, t, head),
+            )?
         }
         ArcKind::Piece {
             t,
@@ -196,8 +202,11 @@ fn entries(
             item,
             ..
         } => {
-            let mut entries =
-                moves(alloc, node_place(starts, t, tail), node_place(starts, t, head))?;
+            let mut entries = moves(
+                alloc,
+                node_place(starts, t, tail),
+                node_place(starts, t, head),
+            )?;
             entries.push(Entry {
                 row: starts[graph.type_count() as usize] + item,
                 value: 1,

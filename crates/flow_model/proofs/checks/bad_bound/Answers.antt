@@ -1,13 +1,11 @@
-use Rattle.std.proofs.Common.{◌≡◌, ℕ, ◌+◌, ◌<◌, ◌≤◌, List, length, get_or, refl, sym, ap, ◌∙◌, rules, arith}
+use Rattle.std.proofs.Common.{◌≡◌, ℕ, ◌+◌, ◌<◌, ◌≤◌, List, length, get_or, refl, ap, rules, arith}
 use Rattle.std.specs.Prelude.{◌↔◌}
 use Rattle.packing_laws.specs.Instances.{InstanceValue}
-use Rattle.flow_graph.specs.declared.parts.ArcKind.{ArcKind}
 use Rattle.flow_graph.specs.declared.parts.ArcKind.TheVariants.{Bin}
 use Rattle.flow_graph.specs.Arcs.{TypeValue, numbered}
-use Rattle.flow_model.specs.declared.flows.FlowRow.{FlowRow}
 use Rattle.flow_model.specs.declared.flows.FlowRow.TheVariants.{Bound}
 use Rattle.flow_model.specs.Boxes.{upper_of}
-use Rattle.flow_model.specs.Flows.{Keeps, IsBounded, FirstBroken, up_to}
+use Rattle.flow_model.specs.Flows.{Keeps, IsBounded}
 use Rattle.flow_model.proofs.BrokenRows.{next_broken, all_hold, bounded_at, each_more}
 use Rattle.flow_model.proofs.checks.bad_bound.Goals as goal
 

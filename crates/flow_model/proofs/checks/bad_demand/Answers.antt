@@ -1,6 +1,6 @@
 use Rattle.std.proofs.Common.{◌≡◌, ℕ, ◌+◌, ◌-◌, ◌<◌, ◌≤◌, List, [], length, get_or, sym, ap, ◌∙◌, subst, rules, arith}
 use Rattle.std.specs.Prelude.{◌↔◌}
-use Rattle.packing_laws.specs.Instances.{InstanceValue, IsAmong, item_at}
+use Rattle.packing_laws.specs.Instances.{InstanceValue, item_at}
 use Rattle.packing_laws.specs.declared.instances.Item.{Item}
 use Rattle.flow_graph.specs.Arcs.{TypeValue}
 use Rattle.std.proofs.lemmas.List.{get_or_default}

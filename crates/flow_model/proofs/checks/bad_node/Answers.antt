@@ -1,4 +1,4 @@
-use Rattle.std.proofs.Common.{◌≡◌, ℕ, ◌+◌, ◌<◌, ◌≤◌, List, Option, None, Some, map, length, take, refl, subst, rules, arith, All}
+use Rattle.std.proofs.Common.{◌≡◌, ℕ, ◌+◌, ◌<◌, ◌≤◌, List, Option, None, Some, map, length, take, subst, rules, All}
 use Rattle.std.specs.Prelude.{is_some, true, false}
 use Rattle.std.proofs.lemmas.List.{take_all}
 use Rattle.flow_graph.specs.Arcs.{TypeValue, flow_type}

@@ -1,6 +1,5 @@
-use Rattle.std.proofs.Common.{◌≡◌, ℕ, ◌+◌, ◌<◌, ◌≤◌, length, get_or, sym, ap, ◌∙◌, rules, arith}
+use Rattle.std.proofs.Common.{◌≡◌, ℕ, ◌+◌, ◌<◌, ◌≤◌, ap, rules, arith}
 use Rattle.std.specs.Prelude.{◌↔◌}
-use Rattle.packing_laws.specs.Instances.{IsAmong}
 use Rattle.flow_graph.specs.Arcs.{flow_type}
 use Rattle.flow_model.specs.declared.flows.FlowRow.TheVariants.{Node}
 use Rattle.flow_model.specs.Flows.{Keeps, IsConserved}

@@ -1,4 +1,4 @@
-use Rattle.std.proofs.Common.{◌≡◌, ℕ, ◌+◌, ◌<◌, ◌≤◌, List, length, get_or, take, sum_by, replicate, slice_index, refl, sym, ap, ◌∙◌, rules, arith}
+use Rattle.std.proofs.Common.{◌≡◌, ℕ, ◌<◌, List, length, get_or, sum_by, replicate, slice_index, ap, ◌∙◌, rules, arith}
 use Rattle.std.proofs.lemmas.List.{take_all, length-replicate, get_or_read}
 use Rattle.flow_graph.specs.Arcs.{TypeValue}
 use Rattle.flow_model.specs.Places.{AreStarts}

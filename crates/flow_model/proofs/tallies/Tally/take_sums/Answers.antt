@@ -1,7 +1,7 @@
-use Rattle.std.proofs.Common.{◌≡◌, ℕ, ◌+◌, ◌^◌, ◌<◌, List, length, get_or, refl, sym, ap, ◌∙◌, subst, add-one, rules, arith, All}
+use Rattle.std.proofs.Common.{◌≡◌, ℕ, ◌+◌, ◌^◌, ◌<◌, List, length, get_or, refl, sym, ap, ◌∙◌, subst, add-one, rules}
 use Rattle.flow_graph.specs.declared.parts.ArcKind.{ArcKind}
 use Rattle.flow_graph.specs.declared.parts.ArcKind.TheVariants.{Bin}
-use Rattle.flow_model.specs.Tallies.{TallyValue, HasShapeOf, IsPlaced, IsRaised, AreBelow, Holds}
+use Rattle.flow_model.specs.Tallies.{TallyValue, HasShapeOf, IsPlaced, IsRaised}
 use Rattle.flow_model.proofs.TallySums.{shape_more, below_more, holds_more}
 use Rattle.flow_model.proofs.tallies.Tally.take_sums.Goals as goal
 
