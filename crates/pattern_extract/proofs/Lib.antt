@@ -12,3 +12,6 @@ pub mod Trimming
 pub mod PathContents
 pub mod Surplus
 pub mod Extracting
+pub mod UnitRuns
+pub mod UnitTrims
+pub mod WorthLaws
