@@ -9,3 +9,9 @@ pub mod Moves
 pub mod RunSums
 pub mod Reducing
 pub mod Trimming
+pub mod PathContents
+pub mod Surplus
+pub mod Extracting
+pub mod UnitRuns
+pub mod UnitTrims
+pub mod WorthLaws

@@ -158,3 +158,7 @@ taken-less g old new run is taken =
 
 pub bin-inside : (g : List TypeValue) (t : ℕ) → IsAmong t (length g) → IsAmong (first_arc g t) (length (numbered g))
 bin-inside g t among = number-within g (first_arc g t) (Bin t) (has_numbers g t among).bin
+
+-- the arcs of a path are among all arcs
+pub path-within : (g : List TypeValue) (run : PathRun) → IsFlowGraph g → IsRun g run → All (λ a. IsAmong a (length (numbered g))) run.arcs
+path-within g run is one k d within = circuit-within g run is one (suc k) d (omega (arith, within))

@@ -77,7 +77,7 @@ pub record IsWalked (g : List TypeValue) (left : List ℕ) (t node times : ℕ) 
   pub each : All (λ a. times ≤ get_or left (a - 1) 0) arcs
   pub comes : 0 < coming g left t node
 
-bin-place : (g : List TypeValue) (t : ℕ) → IsAmong t (length g) → slice_get (numbered g) (first_arc g t - 1) ≡ Some (Bin t)
+pub bin-place : (g : List TypeValue) (t : ℕ) → IsAmong t (length g) → slice_get (numbered g) (first_arc g t - 1) ≡ Some (Bin t)
 bin-place g t among =
     let place : first_arc g t ≡ suc (first_arc g t - 1) = omega arith in
     sym (arc_at-suc g (first_arc g t - 1)) ∙ ap (arc_at g) (sym place) ∙ (has_numbers g t among).bin

@@ -1,3 +1,5 @@
 pub mod Runs
 pub mod Walks
 pub mod Trims
+pub mod Extracts
+pub mod Worth
