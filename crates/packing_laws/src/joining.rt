@@ -61,7 +61,7 @@ fn joined_bins(alloc: Global, instance: &Instance, bins: Vec<Bin>) -> Result<Vec
     Ok(done)
 }
 
-/// Joins a bin with one that is done or with its like, as often as it goes, or else puts it to those that are done.
+/// Joins a bin with its like or with one that is done, as often as it goes, or else puts it to those that are done.
 fn place(
     alloc: Global,
     instance: &Instance,
@@ -76,10 +76,13 @@ fn place(
     if bin.times == 0 {
         return Ok(());
     }
-    match partner_of(instance, done.as_slice(), &bin) {
-        Some(found) => join_with(alloc, instance, bin, found, waiting, done),
-        None => settle(alloc, instance, bin, waiting, done),
+    instance.known();
+    if bin.times > 1 {
+        if let Some(bin_type) = shared_type(instance, &bin, &bin) {
+            return halve(alloc, bin, bin_type, waiting);
+        }
     }
+    settle(alloc, instance, bin, waiting, done)
 }
 
 /// Joins the bin with one that is done. What is left of it waits, as does the joined bin.
@@ -114,7 +117,7 @@ fn join_with(
     Ok(())
 }
 
-/// Joins the bin with its like where that goes, and else puts it to those that are done.
+/// Joins the bin with one that is done where that goes, and else puts it to those that are done.
 fn settle(
     alloc: Global,
     instance: &Instance,
@@ -125,17 +128,16 @@ fn settle(
     requires used { 0 < bin.times }
     requires packing { IsWrittenPacking instance.now ((waiting.old.items ++ bin ∷ []) ++ done.old.items) }
     requires joined { AreJoined instance.now done.old.items }
-    requires apart { All (λ other. AreApart instance.now other bin) done.old.items }
+    requires alike { 1 < bin.times → StayApart instance.now (bin.bin_type, bin.counts) (bin.bin_type, bin.counts) }
     ensures { OnOk result (IsStep instance.now (waiting.old.items ++ bin ∷ []) done.old.items waiting.new.items done.new.items) }
 {
-    instance.known();
-    if bin.times > 1 {
-        if let Some(bin_type) = shared_type(instance, &bin, &bin) {
-            return halve(alloc, bin, bin_type, waiting);
+    match partner_of(instance, done.as_slice(), &bin) {
+        Some(found) => join_with(alloc, instance, bin, found, waiting, done),
+        None => {
+            done.push(bin)?;
+            Ok(())
         }
     }
-    done.push(bin)?;
-    Ok(())
 }
 
 /// Joins the bin with its like. One that is left waits, as do the joined bins.
