@@ -1,9 +1,11 @@
 pub mod Texts
-pub mod Values
+pub mod WrittenNumbers
 pub mod Fields
-pub mod Names
+pub mod NamePlaces
 pub mod Rows
 pub mod Changes
+pub mod Splits
+pub mod Places
 pub mod Columns
 pub mod Sides
 pub mod Written

@@ -3,7 +3,10 @@
 
 mod faults;
 mod laws;
+mod names;
+mod split;
 mod stages;
+mod values;
 mod write;
 
 pub use faults::{MpsCause, MpsFault};
