@@ -1,5 +1,6 @@
 pub mod Written
 pub mod Lines
 pub mod Meaning
+pub mod Readers
 pub mod Worked
 pub mod Laws

@@ -4,6 +4,8 @@
 mod faults;
 mod laws;
 mod names;
+mod parts;
+mod reader;
 mod split;
 mod stages;
 mod values;
