@@ -182,8 +182,11 @@ with_row r kind name = record r { rows = r.rows ++ record { name = name; kind = 
 abbrev pub objective_line : Reading → List ℕ → Judged
 objective_line r name = owes (is_none r.objective) cause.Kind (owes (is_new_name r name) cause.Name (Ok (with_objective r name)))
 
+abbrev pub row_named : Reading → List ℕ → RowKind → Judged
+row_named r name kind = owes (is_new_name r name) cause.Name (Ok (with_row r kind name))
+
 abbrev pub row_line : Reading → List ℕ → List ℕ → Judged
-row_line r kind name = gives (kind_in kind) cause.Kind (λ k. owes (is_new_name r name) cause.Name (Ok (with_row r k name)))
+row_line r kind name = gives (kind_in kind) cause.Kind (row_named r name)
 
 abbrev pub rows_line : Reading → List (List ℕ) → Judged
 rows_line r (kind ∷ name ∷ []) = if bytes_eq kind (codes "N") then objective_line r name else row_line r kind name

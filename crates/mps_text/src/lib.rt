@@ -1,11 +1,13 @@
 //! Linear programs in whole numbers as MPS text, both ways.
 #![tactic(auto)]
 
+mod counts;
 mod faults;
 mod laws;
 mod names;
 mod parts;
 mod reader;
+mod row_lines;
 mod split;
 mod stages;
 mod values;
