@@ -6,6 +6,9 @@ pub mod Rows
 pub mod Changes
 pub mod Splits
 pub mod Places
+pub mod Marks
+pub mod Twice
+pub mod LinesRead
 pub mod Columns
 pub mod Sides
 pub mod Written

@@ -1,6 +1,8 @@
 -- How the reader stands to what is read.
-use Rattle.std.specs.Prelude.{◌≡◌, ℕ, suc, ◌<◌, ◌≤◌, Bool, true, false, ◌==◌, List, [], ◌∷◌, ◌++◌, length, get_or, Option, Some, None, Result, Ok, Err}
+use Rattle.std.specs.Prelude.{◌≡◌, ℕ, suc, ◌-◌, ◌<◌, ◌≤◌, Bool, true, false, ◌==◌, List, [], ◌∷◌, ◌++◌, length, get_or, Option, Some, None, Result, Ok, Err}
 use Rattle.mps_text.specs.declared.faults.MpsCause.{MpsCause}
+use Rattle.mps_text.specs.declared.faults.MpsFault.{MpsFault}
+use Rattle.mps_text.specs.declared.faults.MpsFault.TheVariants as fault
 use Rattle.mps_text.specs.declared.reader.LineFault.{LineFault}
 use Rattle.mps_text.specs.declared.reader.LineFault.TheVariants.{Bad, Memory}
 use Rattle.mps_text.specs.declared.stages.Stage.{Stage}
@@ -31,7 +33,7 @@ precedes_columns stage = false
 pub record AreMarks (marks : List ℕ) (rows : List ReadRow) (columns : List ReadColumn) : Type 0 where
   pub size : length marks ≡ length rows
   pub bound : (k : ℕ) → k < length marks → get_or marks k 0 ≤ length columns
-  pub last : (done : List ReadColumn) (c : ReadColumn) → columns ≡ done ++ c ∷ [] → (k : ℕ) → k < length marks → (get_or marks k 0 == length columns) ≡ has_entry (suc k) c
+  pub last : (k : ℕ) (c : ReadColumn) → k < length marks → 0 < length columns → (get_or marks k 0 == length columns) ≡ has_entry (suc k) (get_or columns (length columns - 1) c)
 
 -- the names are those of the rows and columns, and the marks are kept while columns may come
 pub record IsKept (r : Reader) : Type 0 where
@@ -51,3 +53,33 @@ abbrev pub Finds : {A : Type 0} → Result A LineFault → Option A → MpsCause
 Finds (Ok x) found e = found ≡ Some x
 Finds (Err (Bad d)) found e = (found ≡ None) × (d ≡ e)
 Finds (Err Memory) found e = Unit {0}
+
+-- the answer with what is left in the place of nothing
+abbrev pub opened : {A : Type 0} → Result (Unit {0}) LineFault → A → Result A LineFault
+opened (Ok x) after = Ok after
+opened (Err fault) after = Err fault
+
+-- the answer with a list in the place of a pair
+abbrev pub both_of : {A : Type 0} → Result (A × A) LineFault → Result (List A) LineFault
+both_of (Ok pair) = Ok (pair.0 ∷ pair.1 ∷ [])
+both_of (Err fault) = Err fault
+
+-- all but the columns and the marks is as before
+pub record KeepsAll (old new : Reader) : Type 0 where
+  pub stage : new.stage ≡ old.stage
+  pub whole : new.whole ≡ old.whole
+  pub objective : new.objective ≡ old.objective
+  pub rows : new.rows.items ≡ old.rows.items
+
+-- all but the rows is as before
+pub record KeepsColumns (old new : Reader) : Type 0 where
+  pub stage : new.stage ≡ old.stage
+  pub whole : new.whole ≡ old.whole
+  pub objective : new.objective ≡ old.objective
+  pub columns : new.columns.items ≡ old.columns.items
+
+-- the answer to a text is what its lines leave, or the fault, or want of memory
+abbrev pub Reads : {A : Type 0} → Result A MpsFault → Result Reading MpsFault → Reading → Type 0
+Reads (Ok x) read after = read ≡ Ok after
+Reads (Err (fault.Bad n e)) read after = read ≡ Err (fault.Bad n e)
+Reads (Err fault.Memory) read after = Unit {0}

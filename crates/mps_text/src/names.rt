@@ -9,6 +9,7 @@ use std::alloc::Global;
 use std::marker::Model;
 
 /// Names that are apart, each with its place from 0. They are parts of the text that is read.
+#[derive(Drop)]
 pub(crate) struct Names<'a> {
     set: IndexSet<&'a [u8]>,
 }

@@ -1,6 +1,10 @@
 //! Rows and columns as far as they are read.
 
+ghost use Rattle.std.specs.Prelude.{◌≡◌, [], ◌∷◌, ◌++◌, OnOk, OnErr};
+
+use arc_num::Memory;
 use flow_model::{Entry, Name, RowKind};
+use std::alloc::Global;
 use std::marker::Model;
 
 /// A row, and its right side where a line gave one.
@@ -35,4 +39,38 @@ impl Model for Entries {
     ghost Value = { List Entry };
 
     ghost view = { λ s. s.list.items };
+}
+
+impl Entries {
+    pub(crate) fn new(alloc: Global) -> Self
+        ensures { result ≡ [] }
+    {
+        Entries {
+            list: Vec::new(alloc),
+        }
+    }
+
+    fn push(&mut self, entry: Entry) -> Result<(), Memory>
+        ensures ok { OnOk result (self.new ≡ self.old ++ entry ∷ []) }
+        ensures err { OnErr result (self.new ≡ self.old) }
+    {
+        self.list.push(entry)?;
+        Ok(())
+    }
+
+    pub(crate) fn as_slice(&self) -> &[Entry]
+        ensures { result.now ≡ self.now }
+    {
+        self.list.as_slice()
+    }
+}
+
+impl ReadColumn {
+    /// One more entry.
+    pub(crate) fn add(&mut self, entry: Entry) -> Result<(), Memory>
+        ensures ok { OnOk result (self.new ≡ record self.old { entries = self.old.entries ++ entry ∷ [] }) }
+        ensures err { OnErr result (self.new ≡ self.old) }
+    {
+        self.entries.push(entry)
+    }
 }

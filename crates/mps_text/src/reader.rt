@@ -9,7 +9,7 @@ ghost use Rattle.mps_text.specs.Readers.{reading_of, IsKept, Judges};
 use crate::faults::MpsCause;
 use crate::names::Names;
 use crate::parts::{ReadColumn, ReadRow};
-use crate::split::{indented, next_field, skipped};
+use crate::split::next_field;
 use crate::stages::Stage;
 use flow_model::Name;
 use std::alloc::Global;
@@ -23,6 +23,7 @@ pub(crate) enum LineFault {
 
 /// What is read so far. The names are also kept by themselves, to be found fast; each row has a mark, the number of the
 /// last column that has a value in it.
+#[derive(Drop)]
 pub(crate) struct Reader<'a> {
     pub(crate) stage: Stage,
     pub(crate) whole: bool,
@@ -51,7 +52,8 @@ impl<'a> Reader<'a> {
         }
     }
 
-    fn heading(&mut self, line: &[u8]) -> Result<(), LineFault>
+    /// A heading.
+    pub(crate) fn heading(&mut self, line: &[u8]) -> Result<(), LineFault>
         requires kept { IsKept self.old }
         ensures judged { Judges result (heading (reading_of self.old) (fields_of line.now)) (reading_of self.new) }
         ensures kept { OnOk result (IsKept self.new) }
@@ -142,7 +144,7 @@ fn is_columns(stage: Stage) -> bool
     matches!(stage, Stage::Columns)
 }
 
-fn is_ended(stage: Stage) -> bool
+pub(crate) fn is_ended(stage: Stage) -> bool
     ensures { result ≡ is_ended stage }
 {
     matches!(stage, Stage::Ended)
