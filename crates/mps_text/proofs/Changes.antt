@@ -4,7 +4,9 @@ use Rattle.std.specs.Prelude.{bytes_eq, slice_get, codes, option_map, option_and
 use Rattle.std.proofs.Math.Seq.{set-append_seam}
 use Rattle.mps_text.specs.declared.stages.BoundKind.{BoundKind}
 use Rattle.flow_model.specs.Programs.{marker_word}
-use Rattle.mps_text.specs.Meaning.{ReadRow, ReadColumn, Reading, onto_some, each_in, change_at, change_each, place_of, row_names, column_names, is_name, value_in, bound_in, target_in, with_values, with_right, with_bound, bound_kind_in, columns_with, column_line, columns_line, right_line, rights_line, bound_line, bounds_line}
+use Rattle.mps_text.specs.declared.parts.ReadRow.{ReadRow}
+use Rattle.mps_text.specs.declared.parts.ReadColumn.{ReadColumn}
+use Rattle.mps_text.specs.Meaning.{Reading, onto_some, each_in, change_at, change_each, place_of, row_names, column_names, is_name, value_in, bound_in, target_in, with_values, with_right, with_bound, bound_kind_in, columns_with, column_line, columns_line, right_line, rights_line, bound_line, bounds_line}
 
 get_seam : {A : Type 0} (xs : List A) (y : A) (ys : List A) → slice_get (xs ++ y ∷ ys) (length xs) ≡ Some y
 get_seam [] y ys = refl

@@ -13,9 +13,11 @@ use Rattle.flow_model.specs.declared.programs.Program.{Program}
 use Rattle.flow_model.specs.Programs.{IsName, IsRow, IsEntry, IsColumn, AreDistinct, marker_word}
 use Rattle.mps_text.specs.declared.stages.Stage.TheVariants.{Columns}
 use Rattle.mps_text.specs.Written.{is_zero, spaced, row_name, cost_line, entry_line, writes_cost, column_lines}
-use Rattle.mps_text.specs.Meaning.{ReadRow, ReadColumn, Reading, row_names, column_names, is_name, place_of, with_value, with_values, with_entry, has_entry, new_column, columns_ending, columns_with}
-use Rattle.mps_text.proofs.Values.{IsField, signed_field, value_written}
-use Rattle.mps_text.proofs.Names.{name_field, name_keeps, differ, IsNew, name_new, place_new, place_last, place_target, place_at}
+use Rattle.mps_text.specs.declared.parts.ReadRow.{ReadRow}
+use Rattle.mps_text.specs.declared.parts.ReadColumn.{ReadColumn}
+use Rattle.mps_text.specs.Meaning.{Reading, row_names, column_names, is_name, place_of, with_value, with_values, with_entry, has_entry, new_column, columns_ending, columns_with}
+use Rattle.mps_text.proofs.WrittenNumbers.{IsField, signed_field, value_written}
+use Rattle.mps_text.proofs.NamePlaces.{name_field, name_keeps, differ, IsNew, name_new, place_new, place_last, place_target, place_at}
 use Rattle.mps_text.proofs.Fields.{Leads, leads_none, leads_on, leads_spaced}
 use Rattle.mps_text.proofs.Rows.{bare, names_of}
 use Rattle.mps_text.proofs.Changes.{change_last, columns_line_gives}

@@ -10,7 +10,7 @@ use Rattle.mps_text.specs.Written.{spaced, joined}
 use Rattle.mps_text.specs.Lines.{lines_of, is_at_feed, fields_of, ends_field, parts_fields, is_skipped}
 use Rattle.mps_text.specs.Meaning.{is_visible, Reading, Judged, line_of, section_line, lines_read, goes_on}
 use Rattle.mps_text.proofs.Texts.{joined-append}
-use Rattle.mps_text.proofs.Values.{both, joint, IsField}
+use Rattle.mps_text.proofs.WrittenNumbers.{both, joint, IsField}
 
 shows_parts : (b : ℕ) → is_visible b ≡ true → parts_fields b ≡ false
 shows_parts b h = grind (arith, nat_tests)

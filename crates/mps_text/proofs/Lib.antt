@@ -1,9 +1,14 @@
 pub mod Texts
-pub mod Values
+pub mod WrittenNumbers
 pub mod Fields
-pub mod Names
+pub mod NamePlaces
 pub mod Rows
 pub mod Changes
+pub mod Splits
+pub mod Places
+pub mod Marks
+pub mod Twice
+pub mod LinesRead
 pub mod Columns
 pub mod Sides
 pub mod Written

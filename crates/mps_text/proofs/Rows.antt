@@ -10,9 +10,10 @@ use Rattle.flow_model.specs.Programs.{IsRow, AreDistinct}
 use Rattle.mps_text.specs.declared.faults.MpsCause.TheVariants as cause
 use Rattle.mps_text.specs.declared.stages.Stage.TheVariants.{Rows}
 use Rattle.mps_text.specs.Written.{kind_letter, row_line}
-use Rattle.mps_text.specs.Meaning.{ReadRow, Reading, Judged, row_names, is_name, place_of, is_new_name, owes, with_row, rows_line}
-use Rattle.mps_text.proofs.Values.{IsField, joint}
-use Rattle.mps_text.proofs.Names.{name_field, name_keeps, name_new, place_new}
+use Rattle.mps_text.specs.declared.parts.ReadRow.{ReadRow}
+use Rattle.mps_text.specs.Meaning.{Reading, Judged, row_names, is_name, place_of, is_new_name, owes, with_row, rows_line}
+use Rattle.mps_text.proofs.WrittenNumbers.{IsField, joint}
+use Rattle.mps_text.proofs.NamePlaces.{name_field, name_keeps, name_new, place_new}
 use Rattle.mps_text.proofs.Fields.{Leads, leads_none, leads_on, leads_spaced}
 
 -- a row without its right side

@@ -12,9 +12,11 @@ use Rattle.mps_text.specs.declared.stages.Stage.TheVariants.{Rights, Limits}
 use Rattle.mps_text.specs.declared.stages.BoundKind.{BoundKind}
 use Rattle.mps_text.specs.declared.stages.BoundKind.TheVariants.{Upper, Lower, Fixed}
 use Rattle.mps_text.specs.Written.{is_zero, spaced, right_lines, bound_line, bound_lines}
-use Rattle.mps_text.specs.Meaning.{ReadRow, ReadColumn, Reading, row_names, column_names, place_of, with_right, with_bound, bound_kind_in}
-use Rattle.mps_text.proofs.Values.{IsField, signed_field, decimal_field, value_written, bound_written}
-use Rattle.mps_text.proofs.Names.{name_field, place_found}
+use Rattle.mps_text.specs.declared.parts.ReadRow.{ReadRow}
+use Rattle.mps_text.specs.declared.parts.ReadColumn.{ReadColumn}
+use Rattle.mps_text.specs.Meaning.{Reading, row_names, column_names, place_of, with_right, with_bound, bound_kind_in}
+use Rattle.mps_text.proofs.WrittenNumbers.{IsField, signed_field, decimal_field, value_written, bound_written}
+use Rattle.mps_text.proofs.NamePlaces.{name_field, place_found}
 use Rattle.mps_text.proofs.Fields.{Leads, leads_none, leads_on, leads_spaced}
 use Rattle.mps_text.proofs.Rows.{bare, names_of}
 use Rattle.mps_text.proofs.Columns.{bare_names, given, column_names_of}

@@ -15,10 +15,12 @@ use Rattle.mps_text.specs.declared.faults.MpsCause.TheVariants as cause
 use Rattle.mps_text.specs.declared.stages.Stage.TheVariants.{Named, Rows, Columns, Rights, Limits, Ended}
 use Rattle.mps_text.specs.Written.{is_zero, spaced, joined, row_line, column_lines, right_lines, bound_lines, writes_cost, first_mark, last_mark, rows_section, columns_section, rights_section, bounds_section, mps_lines_of, mps_text_of}
 use Rattle.mps_text.specs.Lines.{lines_of}
-use Rattle.mps_text.specs.Meaning.{ReadRow, ReadColumn, Reading, first_reading, owes, is_name, is_new_name, is_bounded, lines_read, put_entry, in_row_order, row_of, column_of, program_of, ends_with, mps_meaning}
+use Rattle.mps_text.specs.declared.parts.ReadRow.{ReadRow}
+use Rattle.mps_text.specs.declared.parts.ReadColumn.{ReadColumn}
+use Rattle.mps_text.specs.Meaning.{Reading, first_reading, owes, is_name, is_new_name, is_bounded, lines_read, put_entry, in_row_order, row_of, column_of, program_of, ends_with, mps_meaning}
 use Rattle.mps_text.specs.Laws.{WrittenIsRead}
-use Rattle.mps_text.proofs.Values.{joint}
-use Rattle.mps_text.proofs.Names.{name_field, name_keeps}
+use Rattle.mps_text.proofs.WrittenNumbers.{joint}
+use Rattle.mps_text.proofs.NamePlaces.{name_field, name_keeps}
 use Rattle.mps_text.proofs.Fields.{Leads, leads_on, leads_line, leads_spaced}
 use Rattle.mps_text.proofs.Rows.{bare, rows_read, rows_lead}
 use Rattle.mps_text.proofs.Columns.{AreKnown, given, when, columns_read, columns_lead}

@@ -1,5 +1,5 @@
 -- The lines of a text, and the fields of a line.
-use Rattle.std.specs.Prelude.{ℕ, Bool, true, false, ◌&&◌, ◌||◌, ◌==◌, if◌then◌else◌, List, [], ◌∷◌}
+use Rattle.std.specs.Prelude.{◌≡◌, ℕ, Bool, true, false, ◌&&◌, ◌||◌, ◌==◌, if◌then◌else◌, List, [], ◌∷◌, length}
 use Rattle.std.specs.List.{list_all}
 use Rattle.arc_num.specs.Words.{is_white, onto_first}
 
@@ -15,6 +15,12 @@ lines_of [] = []
 lines_of (b ∷ bs) =
     if b == 10 then [] ∷ lines_of bs
     else (if (b == 13) && is_at_feed bs then lines_of bs else onto_first b (lines_of bs))
+
+-- a line without a carriage return at its end
+abbrev pub without_return : List ℕ → List ℕ
+without_return [] = []
+without_return (b ∷ []) = if b == 13 then [] else b ∷ []
+without_return (b ∷ c ∷ bs) = b ∷ without_return (c ∷ bs)
 
 -- the bytes between fields: space and tab
 abbrev pub parts_fields : ℕ → Bool
@@ -43,3 +49,7 @@ is_comment (b ∷ bs) = b == 42
 -- whether a line counts for nothing: it is empty or white space, or a comment
 abbrev pub is_skipped : List ℕ → Bool
 is_skipped line = list_all is_white line || is_comment line
+
+-- the first field of a line and what stands behind it; the field is empty where the line has none
+abbrev pub IsFirstField : List ℕ → List ℕ → List ℕ → Type 0
+IsFirstField line field rest = fields_of line ≡ (if length field == 0 then [] else field ∷ fields_of rest)

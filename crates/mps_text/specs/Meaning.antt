@@ -17,24 +17,10 @@ use Rattle.mps_text.specs.declared.stages.Stage.{Stage}
 use Rattle.mps_text.specs.declared.stages.Stage.TheVariants.{Start, Named, Rows, Columns, Rights, Limits, Ended}
 use Rattle.mps_text.specs.declared.stages.BoundKind.{BoundKind}
 use Rattle.mps_text.specs.declared.stages.BoundKind.TheVariants.{Upper, Lower, Fixed}
+use Rattle.mps_text.specs.declared.parts.ReadRow.{ReadRow}
+use Rattle.mps_text.specs.declared.parts.ReadColumn.{ReadColumn}
 use Rattle.mps_text.specs.Written.{is_zero}
 use Rattle.mps_text.specs.Lines.{lines_of, fields_of, is_skipped, is_indented}
-
--- a row as far as it is read: its right side, where a line gave one
-pub record ReadRow : Type 0 where
-  pub name : List ℕ
-  pub kind : RowKind
-  pub right : Option ℤ
-
--- a column as far as it is read: its cost and its bounds where lines gave them, and its entries as they were given, also
--- those of value 0
-pub record ReadColumn : Type 0 where
-  pub name : List ℕ
-  pub cost : Option ℤ
-  pub entries : List Entry
-  pub fixed : Option ℕ
-  pub lower : Option ℕ
-  pub upper : Option ℕ
 
 -- what is read so far: the heading that was read last, whether whole columns may stand here, the name of the objective, the
 -- rows and the columns
@@ -119,17 +105,19 @@ change_each f (i ∷ is) (y ∷ ys) xs = option_and_then (change_each f is ys) (
 
 -- Headings.
 
--- the heading that these fields are
-abbrev pub stage_in : List (List ℕ) → Option Stage
-stage_in [] = None
-stage_in (word ∷ fields) =
-    if bytes_eq word (codes "NAME") then Some Named
-    else (if not (length fields == 0) then None
-    else (if bytes_eq word (codes "ROWS") then Some Rows
+-- the heading that a word alone is
+abbrev pub word_alone : List ℕ → Option Stage
+word_alone word =
+    if bytes_eq word (codes "ROWS") then Some Rows
     else (if bytes_eq word (codes "COLUMNS") then Some Columns
     else (if bytes_eq word (codes "RHS") then Some Rights
     else (if bytes_eq word (codes "BOUNDS") then Some Limits
-    else (if bytes_eq word (codes "ENDATA") then Some Ended else None))))))
+    else (if bytes_eq word (codes "ENDATA") then Some Ended else None))))
+
+-- the heading that these fields are: the name may have more behind it, the others stand alone
+abbrev pub stage_in : List (List ℕ) → Option Stage
+stage_in [] = None
+stage_in (word ∷ fields) = if bytes_eq word (codes "NAME") then Some Named else (if length fields == 0 then word_alone word else None)
 
 -- whether a heading may follow another
 abbrev pub follows : Stage → Stage → Bool
@@ -161,14 +149,17 @@ is_below (Some upper) value = nat_le value upper
 abbrev pub is_bounded : ReadColumn → Bool
 is_bounded column = is_some column.fixed || is_below column.upper (unwrap_or column.lower 0)
 
--- a heading: it follows the one before, the objective is there before the columns, whole columns are closed, and at the end
--- all columns have bounds
-abbrev pub heading : Reading → List (List ℕ) → Judged
-heading r fields = gives (stage_in fields) cause.Section (λ stage.
+-- the heading follows the one before, the objective is there before the columns, whole columns are closed, and at the end all
+-- columns have bounds
+abbrev pub begins : Reading → Stage → Judged
+begins r stage =
     owes (follows r.stage stage && not (is_columns stage && is_none r.objective)) cause.Section
     (owes (not r.whole) cause.Kind
     (owes (not (is_ended stage) || list_all is_bounded r.columns) cause.Bound
-    (Ok (record r { stage = stage })))))
+    (Ok (record r { stage = stage }))))
+
+abbrev pub heading : Reading → List (List ℕ) → Judged
+heading r fields = gives (stage_in fields) cause.Section (begins r)
 
 -- Lines of the rows.
 
@@ -191,8 +182,11 @@ with_row r kind name = record r { rows = r.rows ++ record { name = name; kind = 
 abbrev pub objective_line : Reading → List ℕ → Judged
 objective_line r name = owes (is_none r.objective) cause.Kind (owes (is_new_name r name) cause.Name (Ok (with_objective r name)))
 
+abbrev pub row_named : Reading → List ℕ → RowKind → Judged
+row_named r name kind = owes (is_new_name r name) cause.Name (Ok (with_row r kind name))
+
 abbrev pub row_line : Reading → List ℕ → List ℕ → Judged
-row_line r kind name = gives (kind_in kind) cause.Kind (λ k. owes (is_new_name r name) cause.Name (Ok (with_row r k name)))
+row_line r kind name = gives (kind_in kind) cause.Kind (row_named r name)
 
 abbrev pub rows_line : Reading → List (List ℕ) → Judged
 rows_line r (kind ∷ name ∷ []) = if bytes_eq kind (codes "N") then objective_line r name else row_line r kind name

@@ -1,11 +1,22 @@
 //! Linear programs in whole numbers as MPS text, both ways.
 #![tactic(auto)]
 
+mod column_lines;
+mod counts;
 mod faults;
 mod laws;
+mod names;
+mod parts;
+mod read;
+mod reader;
+mod row_lines;
+mod side_lines;
+mod split;
 mod stages;
+mod values;
 mod write;
 
 pub use faults::{MpsCause, MpsFault};
 pub use laws::{rows_are_worked, written_is_read};
+pub use read::read_mps;
 pub use write::write_mps;

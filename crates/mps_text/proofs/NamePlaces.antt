@@ -9,7 +9,7 @@ use Rattle.std.proofs.lemmas.List.Elements.{recursion_from_All}
 use Rattle.std.proofs.lemmas.List.Sums.{position_or_len_is, fails_before_first}
 use Rattle.flow_model.specs.Programs.{IsName, AreDistinct, marker_word}
 use Rattle.mps_text.specs.Meaning.{is_visible, is_name, place_of}
-use Rattle.mps_text.proofs.Values.{joint, IsField}
+use Rattle.mps_text.proofs.WrittenNumbers.{joint, IsField}
 
 byte_shows : (b : ℕ) → (33 ≤ b) × (b ≤ 126) → is_visible b ≡ true
 byte_shows b h = grind (arith, nat_tests)

@@ -1,0 +1,62 @@
+//! Names and numbers in fields.
+
+ghost use Rattle.std.specs.Prelude.{◌≡◌};
+ghost use Rattle.std.specs.List.{list_all};
+ghost use Rattle.mps_text.specs.Meaning.{is_visible, is_name, size_in, value_in, bound_in};
+
+use arc_num::{MAX_PRICE, number};
+
+/// Whether a name keeps the rules.
+pub(crate) fn keeps_rules(name: &[u8]) -> bool
+    ensures { result ≡ is_name name.now }
+{
+    let sized = !name.is_empty() && name.len() <= 255;
+    sized && all_visible(name) && name != b"'MARKER'".as_slice()
+}
+
+fn all_visible(name: &[u8]) -> bool
+    ensures { result ≡ list_all is_visible name.now }
+{
+    name.iter().all(|byte| visible(*byte))
+}
+
+fn visible(byte: u8) -> bool
+    ensures { result ≡ is_visible byte }
+{
+    byte >= b'!' && byte <= b'~'
+}
+
+fn size(field: &[u8]) -> Option<u64>
+    ensures { result ≡ size_in field.now }
+{
+    match number(field) {
+        Some(n) if n <= MAX_PRICE => Some(n),
+        _ => None,
+    }
+}
+
+/// A value: digits, maybe with a minus sign before them.
+pub(crate) fn value(field: &[u8]) -> Option<i64>
+    ensures { result ≡ value_in field.now }
+{
+    match field.strip_prefix(b"-") {
+        Some(digits) => match size(digits) {
+            Some(n) => Some(-(n as i64)),
+            None => None,
+        },
+        None => match size(field) {
+            Some(n) => Some(n as i64),
+            None => None,
+        },
+    }
+}
+
+/// A value of at least 0.
+pub(crate) fn bound(field: &[u8]) -> Option<u64>
+    ensures { result ≡ bound_in field.now }
+{
+    match value(field) {
+        Some(n) if n >= 0 => Some(n as u64),
+        _ => None,
+    }
+}
