@@ -7,9 +7,10 @@ use Rattle.packing_laws.specs.Printed.{units_in}
 use Rattle.flow_graph.specs.Arcs.{TypeValue, IsFlowGraph}
 use Rattle.flow_graph.specs.Faithful.{IsFaithful}
 use Rattle.flow_model.specs.declared.programs.Program.{Program}
-use Rattle.flow_model.specs.Programs.{IsProgram}
+use Rattle.flow_model.specs.Programs.{IsProgram, IsSolution}
 use Rattle.flow_model.specs.Models.{program_of_model, SolutionsAreFlows}
 use Rattle.flow_model.specs.Packed.{PackingsAreFlows}
+use Rattle.pattern_extract.specs.Worth.{FlowsArePackings}
 use Rattle.mps_text.specs.Laws.{WrittenIsRead}
 use Rattle.mps_text.specs.Written.{mps_text_of}
 use Rattle.mps_text.specs.Meaning.{mps_meaning}
@@ -17,7 +18,7 @@ use Rattle.arc_compile.specs.declared.compiled.TypeSize.{TypeSize}
 use Rattle.arc_compile.specs.Compiled.{AreCompiled}
 use Rattle.arc_compile.specs.Graphs.{IsSmall}
 use Rattle.arc_program.specs.declared.status.Status.TheVariants.{Done}
-use Rattle.arc_program.specs.Exports.{HasSolution, IsExport}
+use Rattle.arc_program.specs.Exports.{HasSolution, HasPacking, IsExport}
 
 module _ (I : InstanceValue) (g : List TypeValue) (known : IsInstance I) (graph : IsFlowGraph g) (faithful : IsFaithful I g) where
   -- a packing without empty bins is worth a solution
@@ -30,8 +31,18 @@ module _ (I : InstanceValue) (g : List TypeValue) (known : IsInstance I) (graph 
         objective = solutions.objective I g flow.values ∙ ap pos flow.cost;
       }
 
-  pub is_export : SolutionsAreFlows → PackingsAreFlows → WrittenIsRead → (sizes : List TypeSize) (p : Program) (text : List ℕ) → AreCompiled I g sizes → IsSmall I → p ≡ program_of_model I g → IsProgram p → text ≡ mps_text_of p → IsExport I Done text
-  is_export solutions packings written sizes p text compiled small same lawful is = record {
+  -- a solution is worth a packing
+  solution_packed : SolutionsAreFlows → FlowsArePackings → (values : List ℕ) → IsSolution (program_of_model I g) values → HasPacking I (program_of_model I g) values
+  solution_packed solutions flows values solved =
+      let worth = flows I g values known graph faithful ((solutions.solutions I g values known graph faithful.graph).0 solved) in
+      record {
+        bins = worth.bins;
+        packing = worth.packing;
+        objective = solutions.objective I g values ∙ ap pos (sym worth.cost);
+      }
+
+  pub is_export : SolutionsAreFlows → PackingsAreFlows → FlowsArePackings → WrittenIsRead → (sizes : List TypeSize) (p : Program) (text : List ℕ) → AreCompiled I g sizes → IsSmall I → p ≡ program_of_model I g → IsProgram p → text ≡ mps_text_of p → IsExport I Done text
+  is_export solutions packings flows written sizes p text compiled small same lawful is = record {
     graph = g;
     sizes = sizes;
     are_compiled = compiled;
@@ -39,5 +50,6 @@ module _ (I : InstanceValue) (g : List TypeValue) (known : IsInstance I) (graph 
     text_is = is ∙ ap mps_text_of same;
     meaning = ap mps_meaning is ∙ (written p lawful ∙ ap (λ (q : Program). Ok q) same);
     packings = packing_solved solutions packings;
+    solutions = solution_packed solutions flows;
     status_is = refl;
   }

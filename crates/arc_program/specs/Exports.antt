@@ -21,8 +21,14 @@ pub record HasSolution (I : InstanceValue) (p : Program) (bins : Bins) : Type 0 
   pub solution : IsSolution p values
   pub objective : objective_of p values ≡ pos (cost_of I bins)
 
+-- a packing that costs what the objective is at a solution of a program
+pub record HasPacking (I : InstanceValue) (p : Program) (values : List ℕ) : Type 0 where
+  pub bins : Bins
+  pub packing : IsPacking I bins
+  pub objective : objective_of p values ≡ pos (cost_of I bins)
+
 -- the text is that of the program of the instance over its numbered arcs, and means this program; each packing without
--- empty bins is worth a solution of it
+-- empty bins is worth a solution of it, and each solution a packing, at equal cost
 pub record IsExport (I : InstanceValue) (status : Status) (text : List ℕ) : Type 0 where
   pub graph : List TypeValue
   pub sizes : List TypeSize
@@ -31,4 +37,5 @@ pub record IsExport (I : InstanceValue) (status : Status) (text : List ℕ) : Ty
   pub text_is : text ≡ mps_text_of (program_of_model I graph)
   pub meaning : mps_meaning text ≡ Ok (program_of_model I graph)
   pub packings : (bins : Bins) → IsPacking I bins → All (λ b. 0 < units_in b.1) bins → HasSolution I (program_of_model I graph) bins
+  pub solutions : (values : List ℕ) → IsSolution (program_of_model I graph) values → HasPacking I (program_of_model I graph) values
   pub status_is : status ≡ Done

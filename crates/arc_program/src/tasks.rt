@@ -28,6 +28,7 @@ use packing_laws::{
     Instance, Packing, cost, homeless_item, join_bins, material_bound, material_is_floor,
     no_place_no_packing, packings_fit, tidy,
 };
+use pattern_extract::flows_are_packings;
 use std::alloc::Global;
 use std::thread::Threads;
 
@@ -194,6 +195,7 @@ fn model_report(alloc: Global, instance: &Instance, compiled: &Compiled) -> Resu
     compiled.graph.known();
     solutions_are_flows();
     packings_are_flows();
+    flows_are_packings();
     written_is_read();
     let program = program_of(alloc, &compiled.graph, instance)?;
     let text = Text::new(write_mps(alloc, &program)?);
