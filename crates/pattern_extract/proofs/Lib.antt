@@ -12,3 +12,4 @@ pub mod Trimming
 pub mod PathContents
 pub mod Surplus
 pub mod Extracting
+pub mod Examples

@@ -2,3 +2,4 @@ pub mod Runs
 pub mod Walks
 pub mod Trims
 pub mod Extracts
+pub mod Worked

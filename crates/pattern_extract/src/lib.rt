@@ -3,6 +3,7 @@
 
 mod contents;
 mod extracts;
+mod laws;
 mod paths;
 mod runs;
 mod surpluses;
@@ -11,5 +12,9 @@ mod trims;
 mod walks;
 
 pub use extracts::{ExtractFault, extract};
+pub use laws::rows_are_worked;
 pub use paths::paths_of;
 pub use runs::PathRun;
+
+#[cfg(test)]
+mod tests;
