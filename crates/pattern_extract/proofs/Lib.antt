@@ -15,3 +15,4 @@ pub mod Extracting
 pub mod UnitRuns
 pub mod UnitTrims
 pub mod WorthLaws
+pub mod Examples

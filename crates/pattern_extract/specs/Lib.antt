@@ -3,3 +3,4 @@ pub mod Walks
 pub mod Trims
 pub mod Extracts
 pub mod Worth
+pub mod Worked

@@ -12,6 +12,9 @@ mod trims;
 mod walks;
 
 pub use extracts::{ExtractFault, extract};
-pub use laws::flows_are_packings;
+pub use laws::{flows_are_packings, rows_are_worked};
 pub use paths::paths_of;
 pub use runs::PathRun;
+
+#[cfg(test)]
+mod tests;
