@@ -8,6 +8,7 @@ pub mod Splits
 pub mod Places
 pub mod Marks
 pub mod Twice
+pub mod Orders
 pub mod LinesRead
 pub mod Columns
 pub mod Sides

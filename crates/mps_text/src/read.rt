@@ -1,6 +1,8 @@
 //! Reading a program from MPS text.
 
 ghost use Rattle.std.specs.Prelude.{◌≡◌, ◌⊎◌, ℕ, ◌+◌, ◌<◌, ◌≤◌, ◌^◌, [], map, filter, not, length, unwrap_or, Ok, Err, OnOk, IfOk, MatchResult};
+ghost use Rattle.std.specs.List.Sorted.{IsSortedByKey, IsStableByKey};
+ghost use Rattle.std.specs.Ordering.{nat_cmp};
 ghost use Rattle.mps_text.specs.Lines.{lines_of, fields_of};
 ghost use Rattle.mps_text.specs.Meaning.{first_reading, section_line, line_of, lines_read, in_row_order, row_of, column_of, program_of, mps_meaning};
 ghost use Rattle.mps_text.specs.Written.{is_zero};
@@ -181,8 +183,28 @@ impl Entries {
         ensures { IfOk result (λ v. v.items ≡ in_row_order (filter (λ e. not (is_zero e.value)) self)) }
     {
         let mut list = self.list;
-        list.retain(|entry| entry.value != 0);
-        list.sort_by_key(|entry| entry.row)?;
+        drop_zeros(&mut list);
+        sort_by_row(&mut list)?;
         Ok(list)
     }
+}
+
+fn drop_zeros(list: &mut Vec<Entry>)
+    ensures { list.new.items ≡ filter (λ e. not (is_zero e.value)) list.old.items }
+{
+    list.retain(|entry| is_filled(entry));
+}
+
+fn is_filled(entry: &Entry) -> bool
+    ensures { result ≡ not (is_zero entry.now.value) }
+{
+    entry.value != 0
+}
+
+fn sort_by_row(list: &mut Vec<Entry>) -> Result<(), Memory>
+    ensures sorted { OnOk result (IsSortedByKey (λ e. e.row) nat_cmp list.new.items) }
+    ensures stable { IsStableByKey (λ e. e.row) nat_cmp list.old.items list.new.items }
+{
+    list.sort_by_key(|entry| entry.row)?;
+    Ok(())
 }
