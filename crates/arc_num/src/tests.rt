@@ -62,9 +62,10 @@ fn numbers_are_appended(rt: HostRuntime) -> Result<(), Fail> {
     let mut out = Vec::from_slice(rt.alloc(), b"n = ")?;
     push_number(&mut out, 0)?;
     push_number(&mut out, u128::MAX)?;
+    push_signed(&mut out, -2)?;
     assert_eq!(rt;
         out.as_slice(),
-        b"n = 0340282366920938463463374607431768211455".as_slice()
+        b"n = 0340282366920938463463374607431768211455-2".as_slice()
     );
     let text = format!(in rt.alloc(); "{Memory}")?;
     assert_eq!(rt; text.as_str(), "out of memory");

@@ -1,12 +1,12 @@
 -- Changes of an element in the middle of a list, and lines that take what they give.
-use Rattle.std.proofs.Common.{◌≡◌, ℕ, ◌+◌, ◌-◌, Bool, true, false, List, [], ◌∷◌, ◌++◌, length, Option, Some, None, ℤ, refl, sym, ap, ◌∙◌, subst, Result, Ok, arith, length-append}
-use Rattle.std.specs.Prelude.{bytes_eq, slice_get, codes, option_map, option_and_then, set}
+use Rattle.std.proofs.Common.{◌≡◌, ℕ, ◌-◌, true, false, List, [], ◌∷◌, ◌++◌, length, Option, Some, ℤ, refl, ap, ◌∙◌, Ok, arith, length-append}
+use Rattle.std.specs.Prelude.{bytes_eq, slice_get, option_map, option_and_then, set}
 use Rattle.std.proofs.Math.Seq.{set-append_seam}
 use Rattle.mps_text.specs.declared.stages.BoundKind.{BoundKind}
 use Rattle.flow_model.specs.Programs.{marker_word}
 use Rattle.mps_text.specs.declared.parts.ReadRow.{ReadRow}
 use Rattle.mps_text.specs.declared.parts.ReadColumn.{ReadColumn}
-use Rattle.mps_text.specs.Meaning.{Reading, onto_some, each_in, change_at, change_each, place_of, row_names, column_names, is_name, value_in, bound_in, target_in, with_values, with_right, with_bound, bound_kind_in, columns_with, column_line, columns_line, right_line, rights_line, bound_line, bounds_line}
+use Rattle.mps_text.specs.Meaning.{Reading, onto_some, each_in, change_at, change_each, place_of, row_names, column_names, is_name, value_in, bound_in, target_in, with_values, with_right, with_bound, bound_kind_in, columns_with, column_line, columns_line, right_line, rights_line, bounds_line}
 
 get_seam : {A : Type 0} (xs : List A) (y : A) (ys : List A) → slice_get (xs ++ y ∷ ys) (length xs) ≡ Some y
 get_seam [] y ys = refl
@@ -46,8 +46,8 @@ pub rights_line_gives : (r : Reading) (name row value : List ℕ) (changed : Lis
     → change_at place (with_right number) r.rows ≡ Some changed → rights_line r (name ∷ row ∷ value ∷ []) ≡ Ok (record r { rows = changed })
 rights_line_gives r name row value changed place number named place_is number_is change =
     right_line_gives r name (row ∷ []) (value ∷ []) changed (place ∷ []) (number ∷ []) named
-      (each_one (λ (x : List ℕ). place_of x (row_names r.rows)) row place place_is) (each_one value_in value number number_is)
-      (ap (λ (o : Option (List ReadRow)). option_and_then (change_each with_right [] []) o) change)
+    (each_one (λ (x : List ℕ). place_of x (row_names r.rows)) row place place_is) (each_one value_in value number number_is)
+    (ap (λ (o : Option (List ReadRow)). option_and_then (change_each with_right [] []) o) change)
 
 pub bounds_line_gives : (r : Reading) (kind name column value : List ℕ) (changed : List ReadColumn) (k : BoundKind) (place number : ℕ)
     → bound_kind_in kind ≡ Some k → is_name name ≡ true → place_of column (column_names r.columns) ≡ Some place → bound_in value ≡ Some number

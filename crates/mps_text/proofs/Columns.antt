@@ -1,6 +1,6 @@
 -- Reading the columns that are written.
-use Rattle.std.proofs.Common.{suc, zero, ◌≡◌, ◌≢◌, ℕ, ◌+◌, ◌-◌, ◌<◌, ◌≤◌, ◌^◌, Bool, true, false, cond, List, [], ◌∷◌, ◌++◌, length, get_or, Option, Some, None, ℤ, refl, sym, ap, ◌∙◌, subst, append_assoc, Result, Ok, arith, length-append}
-use Rattle.std.specs.Prelude.{◌&&◌, ◌||◌, ◌==◌, not, nat_abs, bytes_eq, AllPairs, map, flat_map, option_and_then, if◌then◌else◌}
+use Rattle.std.proofs.Common.{suc, zero, ◌≡◌, ℕ, ◌+◌, ◌-◌, ◌<◌, ◌≤◌, ◌^◌, Bool, true, false, List, [], ◌∷◌, ◌++◌, length, get_or, Option, Some, None, ℤ, refl, sym, ap, ◌∙◌, subst, append_assoc, arith, length-append}
+use Rattle.std.specs.Prelude.{◌&&◌, ◌||◌, ◌==◌, not, nat_abs, AllPairs, map, flat_map, option_and_then, if◌then◌else◌}
 use Rattle.std.specs.List.{AllByRecursion, list_any}
 use Rattle.std.proofs.lemmas.Bool.Decides.{nat_tests}
 use Rattle.std.proofs.lemmas.List.{append-nil, map-append, length-map}
@@ -13,10 +13,9 @@ use Rattle.flow_model.specs.declared.programs.Program.{Program}
 use Rattle.flow_model.specs.Programs.{IsName, IsRow, IsEntry, IsColumn, AreDistinct, marker_word}
 use Rattle.mps_text.specs.declared.stages.Stage.TheVariants.{Columns}
 use Rattle.mps_text.specs.Written.{is_zero, spaced, row_name, cost_line, entry_line, writes_cost, column_lines}
-use Rattle.mps_text.specs.declared.parts.ReadRow.{ReadRow}
 use Rattle.mps_text.specs.declared.parts.ReadColumn.{ReadColumn}
-use Rattle.mps_text.specs.Meaning.{Reading, row_names, column_names, is_name, place_of, with_value, with_values, with_entry, has_entry, new_column, columns_ending, columns_with}
-use Rattle.mps_text.proofs.WrittenNumbers.{IsField, signed_field, value_written}
+use Rattle.mps_text.specs.Meaning.{Reading, row_names, column_names, is_name, place_of, with_value, with_values, has_entry, new_column, columns_ending, columns_with}
+use Rattle.mps_text.proofs.WrittenNumbers.{signed_field, value_written}
 use Rattle.mps_text.proofs.NamePlaces.{name_field, name_keeps, differ, IsNew, name_new, place_new, place_last, place_target, place_at}
 use Rattle.mps_text.proofs.Fields.{Leads, leads_none, leads_on, leads_spaced}
 use Rattle.mps_text.proofs.Rows.{bare, names_of}
@@ -74,7 +73,7 @@ value_leads objective rows before done c d name row target value named row_named
     let at : place_of row (objective ∷ row_names (map bare rows)) ≡ Some target = ap (λ (z : List (List ℕ)). place_of row (objective ∷ z)) (bare_names rows) ∙ place in
     let taken : with_values (target ∷ []) (value ∷ []) c ≡ Some d = ap (λ (o : Option ReadColumn). option_and_then (with_values [] []) o) gives in
     leads_spaced r (columns_read objective rows (done ++ d ∷ [])) name (row ∷ signed_decimal value ∷ []) (name_field name named, (name_field row row_named, (signed_field value small, tt)))
-      (columns_line_gives r name row (signed_decimal value) (done ++ c ∷ []) (done ++ d ∷ []) target value (differ row marker_word row_named.other) with refl at (value_written value small) (change_last (with_values (target ∷ []) (value ∷ [])) done c d taken))
+    (columns_line_gives r name row (signed_decimal value) (done ++ c ∷ []) (done ++ d ∷ []) target value (differ row marker_word row_named.other) with refl at (value_written value small) (change_last (with_values (target ∷ []) (value ∷ [])) done c d taken))
 
 -- an entry behind others in lower rows
 below_head : (x : Entry) (xs : List Entry) (e : Entry) (es : List Entry) → AllPairs (λ d e. d.row < e.row) (x ∷ (xs ++ e ∷ es)) → (y : Entry) → x.row < (get_or (xs ++ e ∷ es) (length xs) y).row
@@ -96,7 +95,7 @@ no_entry [] e es order = refl
 no_entry (x ∷ xs) e es order =
     let lower : x.row < e.row = subst (λ (z : Entry). x.row < z.row) (entry_seam xs e es x) (below_head x xs e es order x) in
     or_false (x.row == e.row) (list_any (λ d. d.row == e.row) xs) (other_row x.row e.row lower)
-      (no_entry xs e es (λ i j d lt small. order (suc i) (suc j) d (omega arith) (omega arith)))
+    (no_entry xs e es (λ i j d lt small. order (suc i) (suc j) d (omega arith) (omega arith)))
 
 -- a column with these entries behind its own
 abbrev with_entries : ReadColumn → List Entry → ReadColumn
@@ -116,7 +115,7 @@ entry_leads objective rows before done c column e es known named lawful with ord
     let high : e.row ≤ length (names_of rows) = omega (arith, row.1) in
     let row_named : IsName (row_name rows e.row) = All-from_recursion IsName (names_of rows) (rows_named rows known.rows_named) (e.row - 1) [] (omega arith) in
     value_leads objective rows before done c (with_entries c (e ∷ [])) column.name (row_name rows e.row) e.row e.value named row_named lawful.value with
-      (place_target objective (names_of rows) e.row low high known.apart) (entry_taken c e.row e.value low (no_entry c.entries e es order))
+    (place_target objective (names_of rows) e.row low high known.apart) (entry_taken c e.row e.value low (no_entry c.entries e es order))
 
 entries_lead : (objective : List ℕ) (rows : List Row) (before done : List ReadColumn) (c : ReadColumn) (column : Column) (e : Entry) (es : List Entry)
     → AreKnown objective rows → IsName column.name → c.name ≡ column.name → IsNew column.name (column_names done) → AllByRecursion (IsEntry (length rows)) (e ∷ es)
@@ -131,7 +130,7 @@ entries_lead objective rows before done c column e (f ∷ es) known named same n
     let behind = entries_lead objective rows (done ++ one ∷ []) done one column f es known named same new lawful.1 (columns_last column.name done one same new) (subst (λ (z : List Entry). AllPairs (λ d e. d.row < e.row) z) assoc order) in
     let whole : with_entries one (f ∷ es) ≡ with_entries c (e ∷ f ∷ es) = ap (λ (z : List Entry). record c { entries = z }) (sym assoc) in
     subst (λ (z : ReadColumn). Leads (columns_read objective rows before) (map (entry_line rows column) (e ∷ f ∷ es)) (columns_read objective rows (done ++ z ∷ []))) whole
-      (leads_on (columns_read objective rows before) (columns_read objective rows (done ++ one ∷ [])) (columns_read objective rows (done ++ with_entries one (f ∷ es) ∷ [])) (entry_line rows column e ∷ []) (map (entry_line rows column) (f ∷ es)) first behind)
+    (leads_on (columns_read objective rows before) (columns_read objective rows (done ++ one ∷ [])) (columns_read objective rows (done ++ with_entries one (f ∷ es) ∷ [])) (entry_line rows column e ∷ []) (map (entry_line rows column) (f ∷ es)) first behind)
 
 -- a column that is read up to its cost
 abbrev up_to_cost : Column → Option ℤ → ReadColumn
@@ -153,9 +152,9 @@ parts_lead : (objective : List ℕ) (rows : List Row) (done : List ReadColumn) (
 parts_lead objective rows done column true es known named small new lawful order some =
     let with = columns_new column.name done (name_keeps column.name named) (place_new column.name (column_names done) new) in
     let first = value_leads objective rows done done (new_column column.name) (up_to_cost column (Some column.cost)) column.name objective 0 column.cost named known.objective_named small with
-                  (place_at (objective ∷ names_of rows) 0 [] known.apart (omega arith)) refl in
+    (place_at (objective ∷ names_of rows) 0 [] known.apart (omega arith)) refl in
     leads_on (columns_read objective rows done) (columns_read objective rows (done ++ up_to_cost column (Some column.cost) ∷ [])) (columns_read objective rows (done ++ with_entries (up_to_cost column (Some column.cost)) es ∷ []))
-      (cost_line objective column ∷ []) (map (entry_line rows column) es) first (rest_leads objective rows done column (Some column.cost) es known named new lawful order)
+    (cost_line objective column ∷ []) (map (entry_line rows column) es) first (rest_leads objective rows done column (Some column.cost) es known named new lawful order)
 parts_lead objective rows done column false [] known named small new lawful order some = let h = some refl in absurd (omega arith)
 parts_lead objective rows done column false (e ∷ es) known named small new lawful order some =
     entries_lead objective rows done done (new_column column.name) column e es known named refl new lawful (columns_new column.name done (name_keeps column.name named) (place_new column.name (column_names done) new)) order
@@ -188,4 +187,4 @@ columns_lead p done (column ∷ columns) known lawful apart =
     let first = column_leads p done column known lawful.0 (name_new column.name (column_names done) (column_names_of columns) apart) in
     let behind = columns_lead p after columns known lawful.1 (subst AreDistinct (column_names_on done column columns) apart) in
     subst (λ (z : List ReadColumn). Leads (columns_read p.objective p.rows done) (column_lines p column ++ flat_map (column_lines p) columns) (columns_read p.objective p.rows z)) (append_assoc done (given column ∷ []) (map given columns))
-      (leads_on (columns_read p.objective p.rows done) (columns_read p.objective p.rows after) (columns_read p.objective p.rows (after ++ map given columns)) (column_lines p column) (flat_map (column_lines p) columns) first behind)
+    (leads_on (columns_read p.objective p.rows done) (columns_read p.objective p.rows after) (columns_read p.objective p.rows (after ++ map given columns)) (column_lines p column) (flat_map (column_lines p) columns) first behind)

@@ -1,13 +1,12 @@
 -- The fields of a line that is written are those that were written, and the lines of a text likewise.
-use Rattle.std.proofs.Common.{suc, zero, ◌≡◌, ℕ, ◌+◌, ◌<◌, ◌≤◌, Bool, true, false, cond, List, [], ◌∷◌, ◌++◌, length, refl, sym, ap, ◌∙◌, subst, append_assoc, arith, Result, Ok}
-use Rattle.std.specs.Prelude.{◌&&◌, ◌||◌, ◌==◌, nat_le, codes}
+use Rattle.std.proofs.Common.{◌≡◌, ℕ, ◌+◌, ◌<◌, Bool, true, false, List, [], ◌∷◌, ◌++◌, length, refl, ap, ◌∙◌, append_assoc, arith, Ok}
+use Rattle.std.specs.Prelude.{◌==◌, nat_le}
 use Rattle.std.specs.List.{list_all, AllByRecursion}
 use Rattle.std.proofs.lemmas.Bool.Decides.{nat_tests}
 use Rattle.std.proofs.lemmas.List.{append-nil}
 use Rattle.arc_num.specs.Words.{is_white, onto_first}
-use Rattle.mps_text.specs.declared.faults.MpsFault.{MpsFault}
 use Rattle.mps_text.specs.Written.{spaced, joined}
-use Rattle.mps_text.specs.Lines.{lines_of, is_at_feed, fields_of, ends_field, parts_fields, is_skipped}
+use Rattle.mps_text.specs.Lines.{lines_of, fields_of, ends_field, parts_fields}
 use Rattle.mps_text.specs.Meaning.{is_visible, Reading, Judged, line_of, section_line, lines_read, goes_on}
 use Rattle.mps_text.proofs.Texts.{joined-append}
 use Rattle.mps_text.proofs.WrittenNumbers.{both, joint, IsField}

@@ -1,5 +1,5 @@
 -- Reading lines up to a place of the text.
-use Rattle.std.proofs.Common.{◌≡◌, ℕ, ◌+◌, ◌≤◌, ◌<◌, ◌^◌, List, length, Result, Ok, Err, sym, ap, ◌∙◌}
+use Rattle.std.proofs.Common.{◌≡◌, ℕ, ◌+◌, ◌≤◌, List, length}
 use Rattle.mps_text.specs.declared.reader.Reader.{Reader}
 use Rattle.mps_text.specs.Lines.{lines_of}
 use Rattle.mps_text.specs.Meaning.{first_reading, lines_read}

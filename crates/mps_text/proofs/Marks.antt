@@ -1,6 +1,6 @@
 -- The marks after one more value of the last column.
-use Rattle.std.proofs.Common.{suc, zero, ◌≡◌, ◌≢◌, ℕ, ◌+◌, ◌-◌, ◌<◌, ◌≤◌, Bool, true, false, cond, List, [], ◌∷◌, ◌++◌, length, get_or, Option, Some, None, ℤ, inl, inr, refl, sym, ap, ◌∙◌, subst, arith, get_or-set_same, get_or-set_other, add-one}
-use Rattle.std.specs.Prelude.{◌||◌, ◌==◌, set, slice_get, map, option_map, option_and_then, if◌then◌else◌, ◌⊎◌}
+use Rattle.std.proofs.Common.{suc, zero, ◌≡◌, ◌≢◌, ℕ, ◌+◌, ◌-◌, ◌<◌, ◌≤◌, Bool, true, false, List, [], ◌∷◌, ◌++◌, length, get_or, Option, Some, None, ℤ, inl, inr, refl, sym, ap, ◌∙◌, subst, arith, get_or-set_same, get_or-set_other, add-one}
+use Rattle.std.specs.Prelude.{◌||◌, ◌==◌, set, slice_get, option_map, option_and_then, if◌then◌else◌, ◌⊎◌}
 use Rattle.std.specs.List.{list_any}
 use Rattle.std.proofs.Math.ListN.{length-set}
 use Rattle.std.proofs.lemmas.Bool.Decides.{nat_tests}
@@ -42,10 +42,10 @@ marks_stay marks rows columns i d c h lt last same =
       size = h.size;
       bound = (λ k small. let b = h.bound k small in omega arith);
       last = (λ k e small some.
-        let there : get_or (set columns i c) (length (set columns i c) - 1) e ≡ c = ap (λ (n : ℕ). get_or (set columns i c) n e) (ap (λ (n : ℕ). n - 1) size ∙ sym last) ∙ get_or-set_same columns i c e lt in
-        let old : (get_or marks k 0 == length columns) ≡ has_entry (suc k) (get_or columns i d) =
-              h.last k d small (omega arith) ∙ ap (λ (n : ℕ). has_entry (suc k) (get_or columns n d)) (sym last) in
-        ap (λ (n : ℕ). get_or marks k 0 == n) size ∙ (old ∙ (ap (λ (z : List Entry). list_any (λ e. e.row == suc k) z) (sym same) ∙ ap (λ (z : ReadColumn). has_entry (suc k) z) (sym there))));
+          let there : get_or (set columns i c) (length (set columns i c) - 1) e ≡ c = ap (λ (n : ℕ). get_or (set columns i c) n e) (ap (λ (n : ℕ). n - 1) size ∙ sym last) ∙ get_or-set_same columns i c e lt in
+          let old : (get_or marks k 0 == length columns) ≡ has_entry (suc k) (get_or columns i d) =
+          h.last k d small (omega arith) ∙ ap (λ (n : ℕ). has_entry (suc k) (get_or columns n d)) (sym last) in
+          ap (λ (n : ℕ). get_or marks k 0 == n) size ∙ (old ∙ (ap (λ (z : List Entry). list_any (λ e. e.row == suc k) z) (sym same) ∙ ap (λ (z : ReadColumn). has_entry (suc k) z) (sym there))));
     }
 
 begun : (stage : Stage) → stage ≡ Columns → precedes_columns stage ≡ true → ⊥
@@ -121,12 +121,12 @@ marks_move marks rows columns i place count d c value h lt last_is within count_
       size = room ∙ h.size;
       bound = (λ k small. let b = h.bound k (omega arith) in let m = mark_bound marks place count k (length columns) (same_or_not place k) fits count_is b in omega arith);
       last = (λ k e small some.
-        let there : get_or (set columns i c) (length (set columns i c) - 1) e ≡ c = ap (λ (n : ℕ). get_or (set columns i c) n e) (ap (λ (n : ℕ). n - 1) size ∙ sym last_is) ∙ get_or-set_same columns i c e lt in
-        let old : k < length marks → (get_or marks k 0 == length columns) ≡ has_entry (suc k) (get_or columns i d) =
-              (λ at. h.last k d at (omega arith) ∙ ap (λ (n : ℕ). has_entry (suc k) (get_or columns n d)) (sym last_is)) in
-        let grown : has_entry (suc k) c ≡ (has_entry (suc k) (get_or columns i d) || (place + 1 == suc k)) =
-              ap (λ (z : List Entry). list_any (λ e. e.row == suc k) z) entries ∙ entry_behind (suc k) (get_or columns i d).entries (record { row = place + 1; value = value }) in
-        ap (λ (n : ℕ). get_or (set marks place count) k 0 == n) size ∙ ((mark_last marks place count k (length columns) (has_entry (suc k) (get_or columns i d)) (same_or_not place k) fits count_is (old (omega arith)) ∙ sym grown) ∙ ap (λ (z : ReadColumn). has_entry (suc k) z) (sym there)));
+          let there : get_or (set columns i c) (length (set columns i c) - 1) e ≡ c = ap (λ (n : ℕ). get_or (set columns i c) n e) (ap (λ (n : ℕ). n - 1) size ∙ sym last_is) ∙ get_or-set_same columns i c e lt in
+          let old : k < length marks → (get_or marks k 0 == length columns) ≡ has_entry (suc k) (get_or columns i d) =
+          (λ at. h.last k d at (omega arith) ∙ ap (λ (n : ℕ). has_entry (suc k) (get_or columns n d)) (sym last_is)) in
+          let grown : has_entry (suc k) c ≡ (has_entry (suc k) (get_or columns i d) || (place + 1 == suc k)) =
+          ap (λ (z : List Entry). list_any (λ e. e.row == suc k) z) entries ∙ entry_behind (suc k) (get_or columns i d).entries (record { row = place + 1; value = value }) in
+          ap (λ (n : ℕ). get_or (set marks place count) k 0 == n) size ∙ ((mark_last marks place count k (length columns) (has_entry (suc k) (get_or columns i d)) (same_or_not place k) fits count_is (old (omega arith)) ∙ sym grown) ∙ ap (λ (z : ReadColumn). has_entry (suc k) z) (sym there)));
     }
 
 -- a second value of a row is refused
@@ -137,7 +137,7 @@ entry_refused marks rows columns place i value d h within some last marked =
     let here : has_entry (suc place) (get_or columns (length columns - 1) d) ≡ true = sym (h.last place d fits some) ∙ same_size (get_or marks place 0) (length columns) marked in
     let there : has_entry (place + 1) (get_or columns i d) ≡ true = ap (λ (k : ℕ). has_entry k (get_or columns i d)) (add-one place) ∙ (ap (λ (n : ℕ). has_entry (suc place) (get_or columns n d)) last ∙ here) in
     refused (with_entry (place + 1) value) columns i d (omega arith)
-      (ap (λ (b : Bool). if b then None else Some (record (get_or columns i d) { entries = (get_or columns i d).entries ++ record { row = place + 1; value = value } ∷ [] })) there)
+    (ap (λ (b : Bool). if b then None else Some (record (get_or columns i d) { entries = (get_or columns i d).entries ++ record { row = place + 1; value = value } ∷ [] })) there)
 
 other_size : (n m : ℕ) → n ≢ m → (n == m) ≡ false
 other_size n m h = grind (arith, nat_tests)
@@ -150,7 +150,7 @@ entry_taken marks rows columns place i value d c h within some last marked e =
     let here : has_entry (suc place) (get_or columns (length columns - 1) d) ≡ false = sym (h.last place d fits some) ∙ other_size (get_or marks place 0) (length columns) marked in
     let there : has_entry (place + 1) (get_or columns i d) ≡ false = ap (λ (k : ℕ). has_entry k (get_or columns i d)) (add-one place) ∙ (ap (λ (n : ℕ). has_entry (suc place) (get_or columns n d)) last ∙ here) in
     changed (with_entry (place + 1) value) columns i d c (omega arith)
-      (ap (λ (b : Bool). if b then None else Some (record (get_or columns i d) { entries = (get_or columns i d).entries ++ record { row = place + 1; value = value } ∷ [] })) there ∙ ap (λ (z : ReadColumn). Some z) (sym e))
+    (ap (λ (b : Bool). if b then None else Some (record (get_or columns i d) { entries = (get_or columns i d).entries ++ record { row = place + 1; value = value } ∷ [] })) there ∙ ap (λ (z : ReadColumn). Some z) (sym e))
 
 -- a column with one more entry, from what is the same
 pub one_more : (d e : ReadColumn) (row : ℕ) (v w : ℤ) → v ≡ w → d ≡ e

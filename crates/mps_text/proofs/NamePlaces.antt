@@ -1,6 +1,6 @@
 -- Places of names in lists of names that are apart.
-use Rattle.std.proofs.Common.{suc, zero, ◌≡◌, ◌≢◌, ℕ, ◌+◌, ◌-◌, ◌<◌, ◌≤◌, Bool, true, false, cond, List, [], ◌∷◌, ◌++◌, length, get_or, Option, Some, None, refl, sym, ap, ◌∙◌, subst, arith}
-use Rattle.std.specs.Prelude.{◌&&◌, not, nat_le, nat_lt, bytes_eq, All, AllPairs, map, position, ◌⊎◌}
+use Rattle.std.proofs.Common.{suc, zero, ◌≡◌, ◌≢◌, ℕ, ◌-◌, ◌<◌, ◌≤◌, Bool, true, false, List, [], ◌∷◌, ◌++◌, length, get_or, Some, None, refl, sym, ap, ◌∙◌, subst, arith}
+use Rattle.std.specs.Prelude.{◌&&◌, not, nat_le, nat_lt, bytes_eq, position}
 use Rattle.std.specs.List.{list_all, position_or_len, AllByRecursion}
 use Rattle.std.proofs.lemmas.Bool.Decides.{nat_tests}
 use Rattle.std.proofs.lemmas.Slice.Eq.{bytes_eq-Decides}
@@ -40,7 +40,7 @@ pub name_keeps : (name : List ℕ) → IsName name → is_name name ≡ true
 name_keeps name h =
     let other = ap not (differ name marker_word h.other) in
     joint (nat_le 1 (length name) && nat_le (length name) 255) (list_all is_visible name && not (bytes_eq name marker_word)) (size_test (length name) h.size.0 h.size.1)
-      (joint (list_all is_visible name) (not (bytes_eq name marker_word)) (name_field name h).1 other)
+    (joint (list_all is_visible name) (not (bytes_eq name marker_word)) (name_field name h).1 other)
 
 found : (p : List ℕ → Bool) (xs : List (List ℕ)) (k : ℕ) → position_or_len p xs ≡ k → k < length xs → position p xs ≡ Some k
 found p xs k e lt =
@@ -68,7 +68,7 @@ length_seam (x ∷ xs) y ys = let h = length_seam xs y ys in omega arith
 pub place_found : (name : List ℕ) (before after : List (List ℕ)) → AreDistinct (before ++ name ∷ after) → place_of name (before ++ name ∷ after) ≡ Some (length before)
 place_found name before after apart =
     subst (λ (z : List ℕ). place_of z (before ++ name ∷ after) ≡ Some (length before)) (seam before name after [])
-      (place_at (before ++ name ∷ after) (length before) [] apart (length_seam before name after))
+    (place_at (before ++ name ∷ after) (length before) [] apart (length_seam before name after))
 
 -- a name that is not among these
 abbrev pub IsNew : List ℕ → List (List ℕ) → Type 0
@@ -77,8 +77,8 @@ IsNew name names = position_or_len (bytes_eq name) names ≡ length names
 pub name_new : (name : List ℕ) (before after : List (List ℕ)) → AreDistinct (before ++ name ∷ after) → IsNew name before
 name_new name before after apart =
     position_or_len_is (bytes_eq name) before (length before) [] (omega arith)
-      (λ j below. differ name (get_or before j []) (λ e. apart j (length before) [] below (length_seam before name after) (get_or_append_left before (name ∷ after) [] j below ∙ (sym e ∙ sym (seam before name after [])))))
-      (λ h. absurd (omega arith))
+    (λ j below. differ name (get_or before j []) (λ e. apart j (length before) [] below (length_seam before name after) (get_or_append_left before (name ∷ after) [] j below ∙ (sym e ∙ sym (seam before name after [])))))
+    (λ h. absurd (omega arith))
 
 pub place_new : (name : List ℕ) (names : List (List ℕ)) → IsNew name names → place_of name names ≡ None
 place_new name names new = missed (bytes_eq name) names new
@@ -86,10 +86,10 @@ place_new name names new = missed (bytes_eq name) names new
 pub place_last : (name : List ℕ) (names : List (List ℕ)) → IsNew name names → place_of name (names ++ name ∷ []) ≡ Some (length names)
 place_last name names new =
     found (bytes_eq name) (names ++ name ∷ []) (length names)
-      (position_or_len_is (bytes_eq name) (names ++ name ∷ []) (length names) [] (let lt = length_seam names name [] in omega arith)
-        (λ j below. rw (get_or_append_left names (name ∷ []) [] j below) (fails_before_first (bytes_eq name) names j [] (omega (arith, new))))
-        (λ h. rw (seam names name [] []) (same name)))
-      (length_seam names name [])
+    (position_or_len_is (bytes_eq name) (names ++ name ∷ []) (length names) [] (let lt = length_seam names name [] in omega arith)
+    (λ j below. rw (get_or_append_left names (name ∷ []) [] j below) (fails_before_first (bytes_eq name) names j [] (omega (arith, new))))
+    (λ h. rw (seam names name [] []) (same name)))
+    (length_seam names name [])
 
 -- the name of a row, by its number, among the objective and the rows
 pub place_target : (objective : List ℕ) (names : List (List ℕ)) (r : ℕ) → 1 ≤ r → r ≤ length names → AreDistinct (objective ∷ names) → place_of (get_or names (r - 1) []) (objective ∷ names) ≡ Some r

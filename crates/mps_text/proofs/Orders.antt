@@ -1,5 +1,5 @@
 -- Entries in order of their rows.
-use Rattle.std.proofs.Common.{suc, zero, ◌≡◌, ◌≢◌, ℕ, ◌+◌, ◌<◌, ◌≤◌, Bool, true, false, cond, List, [], ◌∷◌, ◌++◌, length, get_or, pos, inl, inr, refl, sym, ap, ◌∙◌, subst, arith}
+use Rattle.std.proofs.Common.{suc, ◌≡◌, ◌≢◌, ℕ, ◌<◌, ◌≤◌, Bool, true, false, cond, List, [], ◌∷◌, pos, inl, inr, refl, sym, ap, ◌∙◌, subst, arith}
 use Rattle.std.specs.Prelude.{◌&&◌, ◌==◌, not, nat_le, filter, if◌then◌else◌, ⊤, ◌⊎◌}
 use Rattle.std.specs.Ordering.{nat_cmp, is_lt}
 use Rattle.std.specs.List.{AllByRecursion}
@@ -137,7 +137,7 @@ filters_same p q xs h = ap (λ (f : Entry → Bool). filter f xs) (λ i x. h x i
 pub sorted_is : (xs ys : List Entry) → IsSortedByKey (λ e. e.row) nat_cmp ys → IsStableByKey (λ e. e.row) nat_cmp xs ys → ys ≡ in_row_order xs
 sorted_is xs ys sorted stable =
     unique ys (in_row_order xs) (rises_from ys (IsNonDecreasingBy-from_sort (λ (e : Entry). e.row) ys sorted)) (order_rises xs)
-      (λ r. let at : Entry = record { row = r; value = pos 0 } in
-        let one = filters_same (λ e. e.row == r) (ties (λ x y. is_lt (nat_cmp x.row y.row)) at) ys (λ x. sym (tie_is r x.row)) in
-        let two = filters_same (ties (λ x y. is_lt (nat_cmp x.row y.row)) at) (λ e. e.row == r) xs (λ x. tie_is r x.row) in
-        one ∙ (stable at ∙ (two ∙ sym (order_row r xs))))
+    (λ r. let at : Entry = record { row = r; value = pos 0 } in
+    let one = filters_same (λ e. e.row == r) (ties (λ x y. is_lt (nat_cmp x.row y.row)) at) ys (λ x. sym (tie_is r x.row)) in
+    let two = filters_same (ties (λ x y. is_lt (nat_cmp x.row y.row)) at) (λ e. e.row == r) xs (λ x. tie_is r x.row) in
+    one ∙ (stable at ∙ (two ∙ sym (order_row r xs))))

@@ -1,8 +1,7 @@
 -- Places of names among the parts of a text that they are.
-use Rattle.std.proofs.Common.{suc, zero, ◌≡◌, ℕ, ◌+◌, Bool, true, false, cond, List, [], ◌∷◌, ◌++◌, length, Option, Some, None, refl, sym, ap, ◌∙◌, subst, arith, Bor}
+use Rattle.std.proofs.Common.{◌≡◌, ℕ, ◌+◌, Bool, true, false, cond, List, [], ◌∷◌, ◌++◌, length, Some, None, refl, sym, ap, ◌∙◌, arith, Bor}
 use Rattle.std.specs.Prelude.{map, nat_lt, not, ◌||◌, if◌then◌else◌, position, bytes_eq}
 use Rattle.std.specs.List.{position_or_len, list_any}
-use Rattle.std.proofs.lemmas.Bool.Decides.{nat_tests}
 use Rattle.std.proofs.lemmas.List.{length-map, map-append}
 use Rattle.indexmap.specs.IndexSet.{insert_key}
 use Rattle.mps_text.specs.Meaning.{place_of}
@@ -32,6 +31,6 @@ pub names_added : (name : Bor (List ℕ)) (keys after : List (Bor (List ℕ))) (
     → after ≡ insert_key (λ x y. bytes_eq x.now y.now) keys name → map (λ k. k.now) after ≡ names ++ name.now ∷ []
 names_added name keys after names h new e =
     let none : list_any (λ k. bytes_eq name.now k.now) keys ≡ false =
-          none_passes (λ (k : Bor (List ℕ)). bytes_eq name.now k.now) keys (place_none (λ (k : Bor (List ℕ)). bytes_eq name.now k.now) keys (place_by name.now keys names h ∙ new)) in
+    none_passes (λ (k : Bor (List ℕ)). bytes_eq name.now k.now) keys (place_none (λ (k : Bor (List ℕ)). bytes_eq name.now k.now) keys (place_by name.now keys names h ∙ new)) in
     let same : after ≡ keys ++ name ∷ [] = e ∙ ap (λ (b : Bool). if b then keys else keys ++ name ∷ []) none in
     ap (map (λ (k : Bor (List ℕ)). k.now)) same ∙ (map-append (λ (k : Bor (List ℕ)). k.now) keys (name ∷ []) ∙ ap (λ (z : List (List ℕ)). z ++ name.now ∷ []) h)

@@ -1,6 +1,6 @@
 -- Reading the rows that are written.
-use Rattle.std.proofs.Common.{◌≡◌, ℕ, Bool, true, false, List, [], ◌∷◌, ◌++◌, Option, Some, None, refl, sym, ap, ◌∙◌, subst, append_assoc, Result, Ok, arith}
-use Rattle.std.specs.Prelude.{◌&&◌, is_none, map}
+use Rattle.std.proofs.Common.{◌≡◌, ℕ, Bool, true, false, List, [], ◌∷◌, ◌++◌, Some, None, refl, sym, ap, ◌∙◌, subst, append_assoc, Ok, arith}
+use Rattle.std.specs.Prelude.{is_none, map}
 use Rattle.std.specs.List.{AllByRecursion}
 use Rattle.std.proofs.lemmas.List.{append-nil, map-append}
 use Rattle.flow_model.specs.declared.programs.RowKind.{RowKind}
@@ -11,7 +11,7 @@ use Rattle.mps_text.specs.declared.faults.MpsCause.TheVariants as cause
 use Rattle.mps_text.specs.declared.stages.Stage.TheVariants.{Rows}
 use Rattle.mps_text.specs.Written.{kind_letter, row_line}
 use Rattle.mps_text.specs.declared.parts.ReadRow.{ReadRow}
-use Rattle.mps_text.specs.Meaning.{Reading, Judged, row_names, is_name, place_of, is_new_name, owes, with_row, rows_line}
+use Rattle.mps_text.specs.Meaning.{Reading, row_names, is_name, place_of, is_new_name, owes, with_row, rows_line}
 use Rattle.mps_text.proofs.WrittenNumbers.{IsField, joint}
 use Rattle.mps_text.proofs.NamePlaces.{name_field, name_keeps, name_new, place_new}
 use Rattle.mps_text.proofs.Fields.{Leads, leads_none, leads_on, leads_spaced}
@@ -51,4 +51,4 @@ rows_lead objective before (row ∷ rows) h apart =
     let first = leads_spaced r (rows_read objective after) (kind_letter row.kind) (row.name ∷ []) (letter_field row.kind, (name_field row.name h.0.name, tt)) (row_judged r row.kind row.name new) in
     let then = rows_lead objective after rows h.1 (subst AreDistinct (names_on objective before row rows) apart) in
     subst (λ (z : List ReadRow). Leads r (row_line row ∷ map row_line rows) (rows_read objective z)) (append_assoc before (bare row ∷ []) (map bare rows))
-      (leads_on r (rows_read objective after) (rows_read objective (after ++ map bare rows)) (row_line row ∷ []) (map row_line rows) first then)
+    (leads_on r (rows_read objective after) (rows_read objective (after ++ map bare rows)) (row_line row ∷ []) (map row_line rows) first then)

@@ -1,9 +1,8 @@
 -- Reading the right sides and the bounds that are written.
-use Rattle.std.proofs.Common.{◌≡◌, ℕ, ◌+◌, ◌<◌, ◌≤◌, ◌^◌, Bool, true, false, cond, List, [], ◌∷◌, ◌++◌, length, Option, Some, None, ℤ, refl, sym, ap, ◌∙◌, subst, append_assoc, Result, Ok, arith}
-use Rattle.std.specs.Prelude.{◌==◌, nat_abs, map, flat_map, codes, decimal, if◌then◌else◌}
+use Rattle.std.proofs.Common.{◌≡◌, ℕ, ◌≤◌, ◌^◌, Bool, true, false, List, [], ◌∷◌, ◌++◌, length, Option, Some, None, ℤ, refl, sym, ap, ◌∙◌, subst, append_assoc, arith}
+use Rattle.std.specs.Prelude.{◌==◌, map, flat_map, codes, decimal, if◌then◌else◌}
 use Rattle.std.specs.List.{AllByRecursion}
-use Rattle.std.proofs.lemmas.Bool.Decides.{nat_tests}
-use Rattle.std.proofs.lemmas.List.{append-nil, map-append, length-map}
+use Rattle.std.proofs.lemmas.List.{map-append, length-map}
 use Rattle.arc_num.specs.Decimals.{signed_decimal}
 use Rattle.flow_model.specs.declared.programs.Row.{Row}
 use Rattle.flow_model.specs.declared.programs.Column.{Column}
@@ -41,17 +40,17 @@ names_around before row rows = map-append (λ r. r.name) before (bare row ∷ ma
 right_leads : (objective : List ℕ) (columns : List ReadColumn) (before : List ReadRow) (row : Row) (rows : List Row) (b : Bool)
     → IsRow row → AreDistinct (row_names before ++ row.name ∷ names_of rows)
     → Leads (rights_read objective columns (before ++ bare row ∷ map bare rows)) (if b then [] else spaced (codes "RHS" ∷ row.name ∷ signed_decimal row.right ∷ []) ∷ [])
-        (rights_read objective columns (before ++ record { name = row.name; kind = row.kind; right = unless_zero b row.right } ∷ map bare rows))
+    (rights_read objective columns (before ++ record { name = row.name; kind = row.kind; right = unless_zero b row.right } ∷ map bare rows))
 right_leads objective columns before row rows true lawful apart = leads_none (rights_read objective columns (before ++ bare row ∷ map bare rows))
 right_leads objective columns before row rows false lawful apart =
     let after : ReadRow = record { name = row.name; kind = row.kind; right = Some row.right } in
     let r = rights_read objective columns (before ++ bare row ∷ map bare rows) in
     let place : place_of row.name (row_names (before ++ bare row ∷ map bare rows)) ≡ Some (length before) =
-          ap (place_of row.name) (names_around before row rows) ∙ (place_found row.name (row_names before) (names_of rows) apart ∙ ap (λ (n : ℕ). Some n) (length-map before (λ x. x.name))) in
+    ap (place_of row.name) (names_around before row rows) ∙ (place_found row.name (row_names before) (names_of rows) apart ∙ ap (λ (n : ℕ). Some n) (length-map before (λ x. x.name))) in
     leads_spaced r (rights_read objective columns (before ++ after ∷ map bare rows)) (codes "RHS") (row.name ∷ signed_decimal row.right ∷ [])
-      ((omega arith, refl), (name_field row.name lawful.name, (signed_field row.right lawful.right, tt)))
-      (rights_line_gives r (codes "RHS") row.name (signed_decimal row.right) (before ++ after ∷ map bare rows) (length before) row.right refl place (value_written row.right lawful.right)
-        (change_seam (with_right row.right) before (bare row) after (map bare rows) refl))
+    ((omega arith, refl), (name_field row.name lawful.name, (signed_field row.right lawful.right, tt)))
+    (rights_line_gives r (codes "RHS") row.name (signed_decimal row.right) (before ++ after ∷ map bare rows) (length before) row.right refl place (value_written row.right lawful.right)
+    (change_seam (with_right row.right) before (bare row) after (map bare rows) refl))
 
 -- one more row keeps the names apart
 names_on : (before : List ReadRow) (row : Row) (rows : List Row) → row_names before ++ (row.name ∷ names_of rows) ≡ row_names (before ++ sided row ∷ []) ++ names_of rows
@@ -102,13 +101,13 @@ bound_leads : (objective : List ℕ) (rows : List ReadRow) (before : List ReadCo
 bound_leads objective rows before x y c columns kind k value named same apart field kind_is small gives =
     let r = limits_read objective rows (before ++ x ∷ map given columns) in
     let names : column_names (before ++ x ∷ map given columns) ≡ column_names before ++ c.name ∷ column_names_of columns =
-          columns_around before x columns ∙ ap (λ (z : List ℕ). column_names before ++ z ∷ column_names_of columns) same in
+    columns_around before x columns ∙ ap (λ (z : List ℕ). column_names before ++ z ∷ column_names_of columns) same in
     let place : place_of c.name (column_names (before ++ x ∷ map given columns)) ≡ Some (length before) =
-          ap (place_of c.name) names ∙ (place_found c.name (column_names before) (column_names_of columns) apart ∙ ap (λ (n : ℕ). Some n) (length-map before (λ x. x.name))) in
+    ap (place_of c.name) names ∙ (place_found c.name (column_names before) (column_names_of columns) apart ∙ ap (λ (n : ℕ). Some n) (length-map before (λ x. x.name))) in
     leads_spaced r (limits_read objective rows (before ++ y ∷ map given columns)) kind (codes "BND" ∷ c.name ∷ decimal value ∷ [])
-      (field, ((omega arith, refl), (name_field c.name named, (decimal_field value small, tt))))
-      (bounds_line_gives r kind (codes "BND") c.name (decimal value) (before ++ y ∷ map given columns) k (length before) value kind_is refl place (bound_written value small)
-        (change_seam (with_bound k value) before x y (map given columns) gives))
+    (field, ((omega arith, refl), (name_field c.name named, (decimal_field value small, tt))))
+    (bounds_line_gives r kind (codes "BND") c.name (decimal value) (before ++ y ∷ map given columns) k (length before) value kind_is refl place (bound_written value small)
+    (change_seam (with_bound k value) before x y (map given columns) gives))
 
 abbrev lines_for : Column → Bool → Bool → List (List ℕ)
 lines_for c one none =
@@ -126,8 +125,8 @@ close_leads objective rows before c columns false false named low high apart =
     let lower : ReadColumn = record (given c) { lower = Some c.lower } in
     let state = limits_read objective rows in
     leads_on (state (before ++ given c ∷ map given columns)) (state (before ++ lower ∷ map given columns)) (state (before ++ bounded c false false ∷ map given columns)) (bound_line (codes "LO") c c.lower ∷ []) (bound_line (codes "UP") c c.upper ∷ [])
-      (bound_leads objective rows before (given c) lower c columns (codes "LO") Lower c.lower named refl apart (omega arith, refl) refl low refl)
-      (bound_leads objective rows before lower (bounded c false false) c columns (codes "UP") Upper c.upper named refl apart (omega arith, refl) refl high refl)
+    (bound_leads objective rows before (given c) lower c columns (codes "LO") Lower c.lower named refl apart (omega arith, refl) refl low refl)
+    (bound_leads objective rows before lower (bounded c false false) c columns (codes "UP") Upper c.upper named refl apart (omega arith, refl) refl high refl)
 
 closed_names_on : (before : List ReadColumn) (c : Column) (columns : List Column) → column_names before ++ (c.name ∷ column_names_of columns) ≡ column_names (before ++ closed c ∷ []) ++ column_names_of columns
 closed_names_on before c columns =

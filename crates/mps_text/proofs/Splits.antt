@@ -1,11 +1,11 @@
 -- Cutting a text into lines, and a line into fields.
-use Rattle.std.proofs.Common.{suc, zero, ◌≡◌, ◌≢◌, ℕ, ◌+◌, ◌-◌, ◌<◌, ◌≤◌, Bool, true, false, cond, List, [], ◌∷◌, ◌++◌, length, get_or, take, drop, Option, Some, None, refl, sym, ap, ◌∙◌, subst, arith, add-one, drop-cons}
-use Rattle.std.specs.Prelude.{◌&&◌, ◌||◌, ◌==◌, not, nat_lt, position, bytes_eq, codes, if◌then◌else◌}
+use Rattle.std.proofs.Common.{suc, zero, ◌≡◌, ℕ, ◌+◌, ◌-◌, ◌<◌, ◌≤◌, Bool, true, false, cond, List, [], ◌∷◌, ◌++◌, length, get_or, take, drop, Some, None, refl, sym, ap, ◌∙◌, subst, arith, add-one, drop-cons}
+use Rattle.std.specs.Prelude.{◌&&◌, ◌==◌, not, nat_lt, position, bytes_eq, codes, if◌then◌else◌}
 use Rattle.std.specs.List.{list_all, position_or_len}
 use Rattle.std.proofs.Math.Seq.{drop-length}
 use Rattle.std.proofs.lemmas.Bool.Decides.{nat_tests}
 use Rattle.std.proofs.lemmas.List.{take-append-drop, length-drop, length-take-le}
-use Rattle.std.proofs.lemmas.List.Sums.{prefix_len-le-length, passes_at_first, fails_before_first}
+use Rattle.std.proofs.lemmas.List.Sums.{prefix_len-le-length, passes_at_first}
 use Rattle.arc_num.specs.Words.{onto_first}
 use Rattle.mps_text.specs.Lines.{lines_of, is_at_feed, without_return, parts_fields, ends_field, fields_of, IsFirstField}
 
@@ -191,9 +191,9 @@ field_cut (b ∷ bs) h = by (parts_fields b) refl (field_cut bs) (next_byte bs)
     by false e next byte =
         let size : position_or_len parts_fields (b ∷ bs) ≡ suc n = rw e (omega arith) in
         let more : ends_field bs ≡ false → fields_of bs ≡ take n bs ∷ fields_of (drop n bs) =
-              (λ ends. let ready = byte.1 ends in next ready.0 ∙ ap (λ (x : Bool). if x then [] else take n bs ∷ fields_of (drop n bs)) (some_zero n ready.1)) in
+        (λ ends. let ready = byte.1 ends in next ready.0 ∙ ap (λ (x : Bool). if x then [] else take n bs ∷ fields_of (drop n bs)) (some_zero n ready.1)) in
         subst (λ (k : ℕ). fields_of (b ∷ bs) ≡ cut_at k (b ∷ bs)) (sym size)
-          (cut_on b bs n (ends_field bs) refl e byte.0 more ∙ sym (cut_suc n b bs))
+        (cut_on b bs n (ends_field bs) refl e byte.0 more ∙ sym (cut_suc n b bs))
 
 pub take_rest : (k : ℕ) (xs : List ℕ) → take (length xs - k) (drop k xs) ≡ drop k xs
 take_rest k xs = ap (λ (n : ℕ). take n (drop k xs)) (sym (length-drop k xs)) ∙ take_all (drop k xs)

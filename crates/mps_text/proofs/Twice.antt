@@ -1,5 +1,5 @@
 -- Lines that give two values.
-use Rattle.std.proofs.Common.{suc, zero, ◌≡◌, ℕ, ◌+◌, ◌-◌, ◌<◌, ◌≤◌, Bool, true, false, cond, List, [], ◌∷◌, ◌++◌, length, get_or, Option, Some, None, Result, Ok, Err, ℤ, refl, sym, ap, ◌∙◌, subst, arith}
+use Rattle.std.proofs.Common.{suc, zero, ◌≡◌, ℕ, ◌-◌, true, List, [], ◌∷◌, length, Option, Some, None, Result, Ok, Err, ℤ, refl, sym, ap, ◌∙◌, subst}
 use Rattle.std.specs.Prelude.{set, slice_get, option_map, option_and_then}
 use Rattle.std.proofs.lemmas.List.{set-set}
 use Rattle.mps_text.specs.declared.faults.MpsCause.{MpsCause}
@@ -59,7 +59,7 @@ pub two_judged : (r after : Reading) (name : List ℕ) (rows values : List (List
 two_judged r after name rows values columns one two t u v w result with whole target number first size second same =
     let reads = column_reads r name rows values columns (t ∷ u ∷ []) (v ∷ w ∷ []) with whole target number in
     let steps : change_at (length columns - 1) (with_values (t ∷ u ∷ []) (v ∷ w ∷ [])) columns ≡ change_at (length one - 1) (with_value u w) one =
-          values_both (length columns - 1) columns one t u v w first ∙ ap (λ (n : ℕ). change_at (n - 1) (with_value u w) one) (sym size) in
+    values_both (length columns - 1) columns one t u v w first ∙ ap (λ (n : ℕ). change_at (n - 1) (with_value u w) one) (sym size) in
     by result second (reads ∙ ap (λ (o : Option (List ReadColumn)). gives o cause.Twice (λ changed. Ok (record r { columns = changed }))) steps)
   where
     last : Option (List ReadColumn)
@@ -89,7 +89,7 @@ pub two_rights_judged : (r after : Reading) (name : List ℕ) (rows values : Lis
 two_rights_judged r after name rows values one two p q v w result named place number first second same =
     let reads = right_reads r name rows values (p ∷ q ∷ []) (v ∷ w ∷ []) named place number in
     let steps : change_each with_right (p ∷ q ∷ []) (v ∷ w ∷ []) r.rows ≡ change_at q (with_right w) one =
-          ap (λ (o : Option (List ReadRow)). option_and_then (change_each with_right (q ∷ []) (w ∷ [])) o) first ∙ no_more_rows (change_at q (with_right w) one) in
+    ap (λ (o : Option (List ReadRow)). option_and_then (change_each with_right (q ∷ []) (w ∷ [])) o) first ∙ no_more_rows (change_at q (with_right w) one) in
     by result second (reads ∙ ap (λ (o : Option (List ReadRow)). gives o cause.Twice (λ changed. Ok (record r { rows = changed }))) steps)
   where
     last : Option (List ReadRow)

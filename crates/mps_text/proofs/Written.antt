@@ -1,6 +1,6 @@
 -- The whole text of a program means this program.
-use Rattle.std.proofs.Common.{suc, zero, ◌≡◌, ◌≢◌, ℕ, ◌+◌, ◌<◌, ◌≤◌, Bool, true, false, cond, List, [], ◌∷◌, ◌++◌, length, get_or, Option, Some, None, ℤ, pos, negsuc, refl, sym, ap, ◌∙◌, subst, Result, Ok, arith}
-use Rattle.std.specs.Prelude.{◌&&◌, ◌||◌, ◌==◌, not, nat_le, nat_abs, AllPairs, map, filter, flat_map, codes, unwrap_or, if◌then◌else◌}
+use Rattle.std.proofs.Common.{suc, zero, ◌≡◌, ◌≢◌, ℕ, ◌<◌, ◌≤◌, Bool, true, false, List, [], ◌∷◌, ◌++◌, length, Some, None, ℤ, pos, negsuc, refl, sym, ap, ◌∙◌, Ok, arith}
+use Rattle.std.specs.Prelude.{◌&&◌, ◌==◌, not, nat_le, AllPairs, map, filter, flat_map, codes, unwrap_or, if◌then◌else◌}
 use Rattle.std.specs.List.{AllByRecursion, list_all}
 use Rattle.std.proofs.lemmas.Bool.Decides.{nat_tests}
 use Rattle.std.proofs.lemmas.List.{append-nil}
@@ -9,15 +9,11 @@ use Rattle.flow_model.specs.declared.programs.Row.{Row}
 use Rattle.flow_model.specs.declared.programs.Entry.{Entry}
 use Rattle.flow_model.specs.declared.programs.Column.{Column}
 use Rattle.flow_model.specs.declared.programs.Program.{Program}
-use Rattle.flow_model.specs.Programs.{IsName, IsRow, IsEntry, IsColumn, IsProgram}
-use Rattle.mps_text.specs.declared.faults.MpsFault.{MpsFault}
+use Rattle.flow_model.specs.Programs.{IsRow, IsEntry, IsColumn, IsProgram}
 use Rattle.mps_text.specs.declared.faults.MpsCause.TheVariants as cause
-use Rattle.mps_text.specs.declared.stages.Stage.TheVariants.{Named, Rows, Columns, Rights, Limits, Ended}
-use Rattle.mps_text.specs.Written.{is_zero, spaced, joined, row_line, column_lines, right_lines, bound_lines, writes_cost, first_mark, last_mark, rows_section, columns_section, rights_section, bounds_section, mps_lines_of, mps_text_of}
-use Rattle.mps_text.specs.Lines.{lines_of}
-use Rattle.mps_text.specs.declared.parts.ReadRow.{ReadRow}
-use Rattle.mps_text.specs.declared.parts.ReadColumn.{ReadColumn}
-use Rattle.mps_text.specs.Meaning.{Reading, first_reading, owes, is_name, is_new_name, is_bounded, lines_read, put_entry, in_row_order, row_of, column_of, program_of, ends_with, mps_meaning}
+use Rattle.mps_text.specs.declared.stages.Stage.TheVariants.{Named, Rows, Ended}
+use Rattle.mps_text.specs.Written.{is_zero, spaced, row_line, column_lines, right_lines, bound_lines, writes_cost, first_mark, last_mark, rows_section, columns_section, rights_section, bounds_section, mps_lines_of, mps_text_of}
+use Rattle.mps_text.specs.Meaning.{Reading, first_reading, owes, is_name, is_new_name, is_bounded, put_entry, in_row_order, row_of, column_of, program_of, ends_with, mps_meaning}
 use Rattle.mps_text.specs.Laws.{WrittenIsRead}
 use Rattle.mps_text.proofs.WrittenNumbers.{joint}
 use Rattle.mps_text.proofs.NamePlaces.{name_field, name_keeps}
@@ -126,10 +122,10 @@ rows_part p h =
     let new : is_new_name begun p.objective ≡ true = joint (is_name p.objective) true (name_keeps p.objective h.objective) refl in
     let head : Leads named (codes "ROWS" ∷ []) begun = leads_line named begun (codes "ROWS") refl refl in
     let line : Leads begun (spaced (codes "N" ∷ p.objective ∷ []) ∷ []) there =
-          leads_spaced begun there (codes "N") (p.objective ∷ []) ((omega arith, refl), (name_field p.objective h.objective, tt)) (ap (λ (b : Bool). owes b cause.Name (Ok there)) new) in
+    leads_spaced begun there (codes "N") (p.objective ∷ []) ((omega arith, refl), (name_field p.objective h.objective, tt)) (ap (λ (b : Bool). owes b cause.Name (Ok there)) new) in
     let rows : Leads there (map row_line p.rows) all = rows_lead p.objective [] p.rows (recursion_from_All IsRow p.rows h.rows) h.rows_apart in
     leads_on named begun all (codes "ROWS" ∷ []) (spaced (codes "N" ∷ p.objective ∷ []) ∷ map row_line p.rows) head
-      (leads_on begun there all (spaced (codes "N" ∷ p.objective ∷ []) ∷ []) (map row_line p.rows) line rows)
+    (leads_on begun there all (spaced (codes "N" ∷ p.objective ∷ []) ∷ []) (map row_line p.rows) line rows)
 
 columns_part : (p : Program) → IsProgram p → Leads (rows_read p.objective (map bare p.rows)) (columns_section p) (record (columns_read p.objective p.rows (map given p.columns)) { whole = false })
 columns_part p h =
@@ -145,8 +141,8 @@ columns_part p h =
     let columns : Leads open_ lines all = columns_lead p [] p.columns known (recursion_from_All (IsColumn (length p.rows)) p.columns h.columns) h.columns_apart in
     let shuts : Leads all (last_mark ∷ []) shut = leads_line all shut last_mark refl refl in
     leads_on before begun shut (codes "COLUMNS" ∷ []) (first_mark ∷ (lines ++ last_mark ∷ [])) head
-      (leads_on begun open_ shut (first_mark ∷ []) (lines ++ last_mark ∷ []) opens
-        (leads_on open_ all shut lines (last_mark ∷ []) columns shuts))
+    (leads_on begun open_ shut (first_mark ∷ []) (lines ++ last_mark ∷ []) opens
+    (leads_on open_ all shut lines (last_mark ∷ []) columns shuts))
 
 tail_apart : (x : List ℕ) (xs : List (List ℕ)) → AllPairs (λ x y. x ≢ y) (x ∷ xs) → AllPairs (λ x y. x ≢ y) xs
 tail_apart x xs h = (λ i j d lt small. h (suc i) (suc j) d (omega arith) (omega arith))
@@ -180,10 +176,10 @@ whole_leads p h =
     let name : Leads first_reading (codes "NAME vpack" ∷ []) named = leads_line first_reading named (codes "NAME vpack") refl refl in
     let last : Leads limits end (ended p) = leads_line limits (ended p) (codes "ENDATA") refl (ap (λ (b : Bool). owes b cause.Bound (Ok (ended p))) bounds_hold) in
     leads_on first_reading named (ended p) (codes "NAME vpack" ∷ []) (rows_section p ++ (columns_section p ++ (rights_section p ++ (bounds_section p ++ end)))) name
-      (leads_on named rows (ended p) (rows_section p) (columns_section p ++ (rights_section p ++ (bounds_section p ++ end))) (rows_part p h)
-        (leads_on rows columns (ended p) (columns_section p) (rights_section p ++ (bounds_section p ++ end)) (columns_part p h)
-          (leads_on columns rights (ended p) (rights_section p) (bounds_section p ++ end) (rights_part p h)
-            (leads_on rights limits (ended p) (bounds_section p) end (bounds_part p h) last))))
+    (leads_on named rows (ended p) (rows_section p) (columns_section p ++ (rights_section p ++ (bounds_section p ++ end))) (rows_part p h)
+    (leads_on rows columns (ended p) (columns_section p) (rights_section p ++ (bounds_section p ++ end)) (columns_part p h)
+    (leads_on columns rights (ended p) (rights_section p) (bounds_section p ++ end) (rights_part p h)
+    (leads_on rights limits (ended p) (bounds_section p) end (bounds_part p h) last))))
 
 program_is : (p : Program) → IsProgram p → program_of (ended p) ≡ p
 program_is p h =

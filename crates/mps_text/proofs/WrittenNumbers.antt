@@ -1,13 +1,13 @@
 -- What is written for a number is read as this number, and is a field.
-use Rattle.std.proofs.Common.{suc, zero, ◌≡◌, ℕ, ◌<◌, ◌≤◌, ◌^◌, Bool, true, false, List, [], ◌∷◌, length, Option, Some, None, ℤ, pos, negsuc, refl, arith, rules}
-use Rattle.std.specs.Prelude.{◌&&◌, codes, decimal, bytes_eq, take, drop, nat_abs}
+use Rattle.std.proofs.Common.{suc, ◌≡◌, ℕ, ◌<◌, ◌≤◌, ◌^◌, Bool, true, false, List, [], ◌∷◌, length, Some, ℤ, pos, negsuc, refl, arith, rules}
+use Rattle.std.specs.Prelude.{◌&&◌, codes, decimal, bytes_eq, take, nat_abs}
 use Rattle.std.specs.List.{list_all}
 use Rattle.std.specs.Char.{is_ascii_digit}
 use Rattle.std.proofs.lemmas.Bool.Decides.{nat_tests}
 use Rattle.std.proofs.lemmas.Str.Parse.{IsNumeralModel, numerals_by_weight}
 use Rattle.std.proofs.lemmas.Fmt.{digits_decimal, digits_value-decimal, decimal_nonempty}
 use Rattle.arc_num.specs.Decimals.{value_of, signed_decimal}
-use Rattle.mps_text.specs.Meaning.{is_visible, size_in, value_in, size_of, bound_in}
+use Rattle.mps_text.specs.Meaning.{is_visible, size_in, value_in, bound_in}
 
 own : IsNumeralModel (λ (ds : List ℕ). list_all is_ascii_digit ds ≡ true) value_of
 own = numerals_by_weight (λ (ds : List ℕ). list_all is_ascii_digit ds ≡ true) (search rules) value_of (search rules)

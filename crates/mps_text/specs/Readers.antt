@@ -1,12 +1,12 @@
 -- How the reader stands to what is read.
-use Rattle.std.specs.Prelude.{◌≡◌, ℕ, suc, ◌-◌, ◌<◌, ◌≤◌, Bool, true, false, ◌==◌, List, [], ◌∷◌, ◌++◌, length, get_or, Option, Some, None, Result, Ok, Err}
+use Rattle.std.specs.Prelude.{◌≡◌, ℕ, suc, ◌-◌, ◌<◌, ◌≤◌, Bool, true, false, ◌==◌, List, [], ◌∷◌, length, get_or, Option, Some, None, Result, Ok, Err}
 use Rattle.mps_text.specs.declared.faults.MpsCause.{MpsCause}
 use Rattle.mps_text.specs.declared.faults.MpsFault.{MpsFault}
 use Rattle.mps_text.specs.declared.faults.MpsFault.TheVariants as fault
 use Rattle.mps_text.specs.declared.reader.LineFault.{LineFault}
 use Rattle.mps_text.specs.declared.reader.LineFault.TheVariants.{Bad, Memory}
 use Rattle.mps_text.specs.declared.stages.Stage.{Stage}
-use Rattle.mps_text.specs.declared.stages.Stage.TheVariants.{Start, Named, Rows, Columns, Rights, Limits, Ended}
+use Rattle.mps_text.specs.declared.stages.Stage.TheVariants.{Start, Named, Rows, Rights, Limits, Ended}
 use Rattle.mps_text.specs.declared.parts.ReadRow.{ReadRow}
 use Rattle.mps_text.specs.declared.parts.ReadColumn.{ReadColumn}
 use Rattle.mps_text.specs.declared.reader.Reader.{Reader}

@@ -1,11 +1,10 @@
 -- A text that is worked by hand, and texts with one fault.
 use Rattle.std.specs.Prelude.{◌≡◌, ℕ, List, [], ◌∷◌, ◌++◌, ℤ, pos, negsuc, Result, Ok, Err, codes}
-use Rattle.flow_model.specs.declared.programs.RowKind.TheVariants.{Equal, Least, Most}
+use Rattle.flow_model.specs.declared.programs.RowKind.TheVariants.{Equal, Least}
 use Rattle.flow_model.specs.declared.programs.Row.{Row}
 use Rattle.flow_model.specs.declared.programs.Column.{Column}
 use Rattle.flow_model.specs.declared.programs.Entry.{Entry}
 use Rattle.flow_model.specs.declared.programs.Program.{Program}
-use Rattle.mps_text.specs.declared.faults.MpsCause.{MpsCause}
 use Rattle.mps_text.specs.declared.faults.MpsCause.TheVariants as cause
 use Rattle.mps_text.specs.declared.faults.MpsFault.{MpsFault}
 use Rattle.mps_text.specs.declared.faults.MpsFault.TheVariants.{Bad}
@@ -27,12 +26,12 @@ three_units = record {
   objective = codes "COST";
   rows = node_row (codes "N1_1") ∷ node_row (codes "N1_2") ∷ node_row (codes "N1_3") ∷ record { name = codes "D1"; kind = Least; right = pos 3 } ∷ [];
   columns =
-    arc_column (codes "Z1") (pos 3) (entry 1 (pos 1) ∷ entry 3 (negsuc 0) ∷ [])
-    ∷ arc_column (codes "F2") (pos 0) (entry 1 (negsuc 0) ∷ entry 2 (pos 1) ∷ entry 4 (pos 1) ∷ [])
-    ∷ arc_column (codes "F3") (pos 0) (entry 1 (negsuc 0) ∷ entry 3 (pos 1) ∷ [])
-    ∷ arc_column (codes "F4") (pos 0) (entry 2 (negsuc 0) ∷ entry 3 (pos 1) ∷ [])
-    ∷ arc_column (codes "F5") (pos 0) (entry 2 (negsuc 0) ∷ entry 3 (pos 1) ∷ entry 4 (pos 1) ∷ [])
-    ∷ [];
+      arc_column (codes "Z1") (pos 3) (entry 1 (pos 1) ∷ entry 3 (negsuc 0) ∷ [])
+      ∷ arc_column (codes "F2") (pos 0) (entry 1 (negsuc 0) ∷ entry 2 (pos 1) ∷ entry 4 (pos 1) ∷ [])
+      ∷ arc_column (codes "F3") (pos 0) (entry 1 (negsuc 0) ∷ entry 3 (pos 1) ∷ [])
+      ∷ arc_column (codes "F4") (pos 0) (entry 2 (negsuc 0) ∷ entry 3 (pos 1) ∷ [])
+      ∷ arc_column (codes "F5") (pos 0) (entry 2 (negsuc 0) ∷ entry 3 (pos 1) ∷ entry 4 (pos 1) ∷ [])
+      ∷ [];
 }
 
 -- its text

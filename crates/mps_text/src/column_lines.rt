@@ -47,7 +47,12 @@ impl<'a> Reader<'a> {
         }
     }
 
-    fn mark_or_value(&mut self, alloc: Global, name: &'a [u8], pair: Pair<'a>) -> Result<(), LineFault>
+    fn mark_or_value(
+        &mut self,
+        alloc: Global,
+        name: &'a [u8],
+        pair: Pair<'a>,
+    ) -> Result<(), LineFault>
         requires kept { IsKept self.old }
         requires stage { self.old.stage ≡ Stage.Columns }
         requires small { length self.old.rows.items < 2 ^ 32 }
@@ -118,7 +123,13 @@ impl<'a> Reader<'a> {
         self.put(target, number)
     }
 
-    fn two_values(&mut self, alloc: Global, name: &'a [u8], first: Pair<'a>, second: Pair<'a>) -> Result<(), LineFault>
+    fn two_values(
+        &mut self,
+        alloc: Global,
+        name: &'a [u8],
+        first: Pair<'a>,
+        second: Pair<'a>,
+    ) -> Result<(), LineFault>
         requires kept { IsKept self.old }
         requires stage { self.old.stage ≡ Stage.Columns }
         requires small { length self.old.rows.items < 2 ^ 32 }

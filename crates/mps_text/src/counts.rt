@@ -37,7 +37,12 @@ pub(crate) fn four_fields(line: &[u8]) -> Option<Four<'_>>
     let (column, rest) = next_field(rest);
     let (value, rest) = next_field(rest);
     let (fifth, _) = next_field(rest);
-    if kind.is_empty() || set.is_empty() || column.is_empty() || value.is_empty() || !fifth.is_empty() {
+    if kind.is_empty()
+        || set.is_empty()
+        || column.is_empty()
+        || value.is_empty()
+        || !fifth.is_empty()
+    {
         return None;
     }
     Some(Four {

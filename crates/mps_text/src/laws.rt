@@ -6,11 +6,9 @@ ghost use Rattle.mps_text.specs.Laws.{WrittenIsRead};
 /// Texts that are worked by hand mean what they should.
 pub fn rows_are_worked()
     ensures { Rows }
-{
-}
+{}
 
 /// What is written for a program that keeps the rules means this program.
 pub fn written_is_read()
     ensures { WrittenIsRead }
-{
-}
+{}

@@ -20,3 +20,6 @@ pub use faults::{MpsCause, MpsFault};
 pub use laws::{rows_are_worked, written_is_read};
 pub use read::read_mps;
 pub use write::write_mps;
+
+#[cfg(test)]
+mod tests;

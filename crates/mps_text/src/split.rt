@@ -99,8 +99,7 @@ pub(crate) fn skipped(line: &[u8]) -> bool
 fn blank(line: &[u8]) -> bool
     ensures { result ≡ list_all is_white line.now }
 {
-    line.iter()
-        .all(|byte| *byte == b' ' || *byte == b'\t' || *byte == b'\r' || *byte == b'\n')
+    line.iter().all(|byte| *byte == b' ' || *byte == b'\t' || *byte == b'\r' || *byte == b'\n')
 }
 
 fn comment(line: &[u8]) -> bool

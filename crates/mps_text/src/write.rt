@@ -47,12 +47,7 @@ fn push_two(out: &mut Vec<u8>, first: &[u8], second: &[u8]) -> Result<(), Memory
     push_bytes(out, b"\n")
 }
 
-fn push_value(
-    out: &mut Vec<u8>,
-    first: &[u8],
-    second: &[u8],
-    value: i64,
-) -> Result<(), Memory>
+fn push_value(out: &mut Vec<u8>, first: &[u8], second: &[u8], value: i64) -> Result<(), Memory>
     ensures { OnOk result (out.new.items ≡ out.old.items ++ joined (spaced (first.now ∷ second.now ∷ signed_decimal value ∷ []) ∷ [])) }
 {
     push_field(out, first)?;

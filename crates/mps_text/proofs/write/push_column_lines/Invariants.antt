@@ -1,5 +1,5 @@
-use Rattle.std.proofs.Common.{◌≡◌, ◌++◌, map, flat_map, take}
-use Rattle.mps_text.specs.Written.{joined, row_line, entry_line, column_lines, right_lines, bound_lines}
+use Rattle.std.proofs.Common.{◌≡◌, ◌++◌, flat_map, take}
+use Rattle.mps_text.specs.Written.{joined, column_lines}
 use Rattle.mps_text.proofs.write.push_column_lines.Given as goal
 
 abbrev pub invariant-loop-column : goal.invariant-loop-column

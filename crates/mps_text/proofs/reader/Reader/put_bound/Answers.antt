@@ -1,5 +1,4 @@
-use Rattle.std.proofs.Common.{◌≡◌, refl, ap, sym, ◌∙◌, subst, get_or, length, arith, None}
-use Rattle.mps_text.specs.declared.parts.ReadColumn.{ReadColumn}
+use Rattle.std.proofs.Common.{refl, ap, sym, ◌∙◌}
 use Rattle.mps_text.specs.Meaning.{with_bound}
 use Rattle.mps_text.specs.Readers.{takes_columns, precedes_columns}
 use Rattle.mps_text.proofs.Marks.{kept_late, names_kept, refused}
@@ -11,7 +10,7 @@ returns-then-set_bound-clause-kept c =
     let d = c.index_mut.result.now in
     let name = c.if-set_bound.ensures.name ∙ ap (λ z. z.name) c.index_mut.ensures.value in
     kept_late r _ c.requires.kept (ap takes_columns c.requires.stage) (ap precedes_columns c.requires.stage) refl refl refl refl
-      (names_kept r.columns.items c.args.place d c.set_bound.new.self c.requires.within name)
+    (names_kept r.columns.items c.args.place d c.set_bound.new.self c.requires.within name)
 
 pub returns-else-set_bound-clause-found : goal.returns-else-set_bound-clause-found
 returns-else-set_bound-clause-found c =

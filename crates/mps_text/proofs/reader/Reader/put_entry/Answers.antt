@@ -1,7 +1,6 @@
-use Rattle.std.proofs.Common.{◌≡◌, refl, ◌+◌, ◌-◌, ◌++◌, ◌∷◌, [], ap, sym, ◌∙◌, get_or, length, arith, w64}
+use Rattle.std.proofs.Common.{◌≡◌, refl, ◌+◌, ◌-◌, [], ap, sym, ◌∙◌, get_or, length, arith, w64}
 use Rattle.std.proofs.lemmas.Grind.{get_or_default_zero}
 use Rattle.std.proofs.lemmas.Int.{to_z-of_z}
-use Rattle.mps_text.specs.declared.parts.ReadColumn.{ReadColumn}
 use Rattle.mps_text.specs.Meaning.{new_column, change_at, with_entry}
 use Rattle.mps_text.specs.Readers.{AreMarks, takes_columns}
 use Rattle.mps_text.proofs.Marks.{kept_last, marks_move, entry_refused, entry_taken, one_more}
@@ -27,8 +26,8 @@ returns-in-Ok-clause-found c =
     let count : c.len-count.result ≡ length r.columns.items = omega arith in
     let last : c.len-count.result - 1 ≡ length r.columns.items - 1 = ap (λ n. n - 1) count in
     let taken = entry_taken r.marks.items r.rows.items r.columns.items c.args.place (c.len-count.result - 1) c.args.number d c.add.new.self marks c.requires.within c.requires.some last
-          (λ e. c.if-index-count.false (c.index.ensures ∙ (zero_default ∙ (e ∙ sym count))))
-          (c.in-Ok.ensures.ok ∙ one_more d (get_or r.columns.items (c.len-count.result - 1) d) (c.args.place + 1) _ c.args.number (to_z-of_z w64 c.args.number c.ranges.number) c.index_mut.ensures.value) in
+    (λ e. c.if-index-count.false (c.index.ensures ∙ (zero_default ∙ (e ∙ sym count))))
+    (c.in-Ok.ensures.ok ∙ one_more d (get_or r.columns.items (c.len-count.result - 1) d) (c.args.place + 1) _ c.args.number (to_z-of_z w64 c.args.number c.ranges.number) c.index_mut.ensures.value) in
     ap (λ n. change_at n (with_entry (c.args.place + 1) c.args.number) r.columns.items) (sym last) ∙ taken
 
 pub returns-in-Ok-clause-kept : goal.returns-in-Ok-clause-kept
@@ -39,4 +38,4 @@ returns-in-Ok-clause-kept c =
     let last : c.len-count.result - 1 ≡ length r.columns.items - 1 = ap (λ n. n - 1) count in
     let whole = c.in-Ok.ensures.ok ∙ one_more d (get_or r.columns.items (c.len-count.result - 1) d) (c.args.place + 1) _ c.args.number (to_z-of_z w64 c.args.number c.ranges.number) c.index_mut.ensures.value in
     kept_last r _ (c.len-count.result - 1) d c.add.new.self c.requires.kept c.requires.stage (omega arith) (ap (λ z. z.name) whole) refl refl refl refl refl
-      (λ h. marks_move r.marks.items r.rows.items r.columns.items (c.len-count.result - 1) c.args.place c.len-count.result d c.add.new.self c.args.number h (omega arith) last c.requires.within count (ap (λ z. z.entries) whole))
+    (λ h. marks_move r.marks.items r.rows.items r.columns.items (c.len-count.result - 1) c.args.place c.len-count.result d c.add.new.self c.args.number h (omega arith) last c.requires.within count (ap (λ z. z.entries) whole))

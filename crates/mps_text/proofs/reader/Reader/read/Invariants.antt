@@ -1,5 +1,4 @@
-use Rattle.std.proofs.Common.{◌≡◌, ◌+◌, ◌≤◌, ◌<◌, length, ℕ}
-use Rattle.mps_text.specs.declared.reader.Reader.{Reader}
+use Rattle.std.proofs.Common.{length}
 use Rattle.mps_text.proofs.LinesRead.{IsReadUpTo}
 use Rattle.mps_text.proofs.reader.Reader.read.Given as goal
 

@@ -1,4 +1,4 @@
-use Rattle.std.proofs.Common.{◌≡◌, ◌-◌, sym, ap, ◌∙◌, subst, ◌∷◌, [], List, ℤ, length, w64, rules, to_z, of_z, SFits}
+use Rattle.std.proofs.Common.{◌≡◌, ◌-◌, sym, ap, ◌∙◌, subst, ◌∷◌, [], ℤ, length, w64, rules, to_z, of_z, SFits}
 use Rattle.std.proofs.lemmas.Int.{to_z-of_z}
 use Rattle.mps_text.specs.declared.faults.MpsCause.TheVariants as cause
 use Rattle.mps_text.specs.Meaning.{Reading, each_in, target_in, change_at, with_value}
@@ -26,6 +26,6 @@ returns-in-Ok-put-clause-judged c =
     let put = ap (λ (z : ℤ). change_at (length open_.columns.items - 1) (with_value t.0 z) open_.columns.items) (sym number) ∙ c.in-Ok-put.ensures.found in
     let put_again = subst (λ (z : ℤ). Finds (opened c.put-in-Ok-put.result second.columns.items) (change_at (length first.columns.items - 1) (with_value t.1 z) first.columns.items) cause.Twice) other_number c.put-in-Ok-put.ensures.found in
     two_judged r (reading_of second) c.args.name.now rows (c.args.first.value.now ∷ c.args.second.value.now ∷ []) open_.columns.items first.columns.items second.columns.items
-      t.0 t.1 v.0 v.1 c.put-in-Ok-put.result
-      c.in-Ok.ensures.found (sym c.in-Ok.ensures.same.whole ∙ c.if-not-self.false) target c.in-Ok-two_numbers.ensures put c.in-Ok-put.ensures.size put_again
-      (three ∙ (ap (λ (z : Reading). record z { columns = second.columns.items }) two ∙ ap (λ (z : Reading). record z { columns = second.columns.items }) one))
+    t.0 t.1 v.0 v.1 c.put-in-Ok-put.result
+    c.in-Ok.ensures.found (sym c.in-Ok.ensures.same.whole ∙ c.if-not-self.false) target c.in-Ok-two_numbers.ensures put c.in-Ok-put.ensures.size put_again
+    (three ∙ (ap (λ (z : Reading). record z { columns = second.columns.items }) two ∙ ap (λ (z : Reading). record z { columns = second.columns.items }) one))
