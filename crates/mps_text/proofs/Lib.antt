@@ -9,6 +9,7 @@ pub mod Places
 pub mod Marks
 pub mod Twice
 pub mod Orders
+pub mod WorkedProgram
 pub mod LinesRead
 pub mod Columns
 pub mod Sides
