@@ -1,7 +1,10 @@
 //! The pieces, the graphs and the sizes of worked instances.
 use super::*;
+use crate::types::main_graph;
 use arc_num::Memory;
+use final_compress::compress_final;
 use flow_graph::ArcKind;
+use label_graph::{Graph, GraphFault};
 use packing_laws::{BinType, Instance, Item, Numbers, Vectors};
 use std::alloc::Global;
 use std::test::Fail;
@@ -122,6 +125,35 @@ fn two_forms_merge_to_two_nodes(rt: HostRuntime) -> Result<(), Fail> {
     };
     assert_eq!(rt; compiled.graph.arc(4), Some(second));
     assert_eq!(rt; compiled.graph.arc(5), None);
+    Ok(())
+}
+
+/// The numbers of labels in one dimension.
+fn numbers(alloc: Global, graph: &Graph<1>) -> Result<Vec<u32>, Memory> {
+    let mut numbers = Vec::new(alloc);
+    for label in graph.labels() {
+        numbers.push(label.get(0))?;
+    }
+    Ok(numbers)
+}
+
+#[test]
+fn labels_of_two_forms(rt: HostRuntime) -> Result<(), Fail> {
+    let alloc = rt.alloc();
+    let items: [(&[u32], u32); 2] = [(&[6], 1), (&[5], 1)];
+    let instance = plain(alloc, &[10], &items)?.ok_or("no instance")?;
+    assert!(rt; instance.dims() <= 1);
+    let _types = instance.type_count();
+    let main = main_graph::<1>(alloc, &instance, 1, 4)?;
+    assert_eq!(rt; numbers(alloc, &main)?.as_slice(), &[4, 5, 10][..]);
+    assert_eq!(rt; main.arcs().len(), 4);
+    let last = compress_final(alloc, &main)?;
+    assert_eq!(rt; numbers(alloc, &last)?.as_slice(), &[0, 6][..]);
+    assert_eq!(rt; last.arcs().len(), 3);
+    match main_graph::<1>(alloc, &instance, 1, 3) {
+        Ok(_) => panic!(rt; "four arcs have room for three"),
+        Err(fault) => assert_eq!(rt; fault, GraphFault::TooManyArcs),
+    }
     Ok(())
 }
 

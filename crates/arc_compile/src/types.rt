@@ -54,8 +54,8 @@ fn size_of<const N: usize>(main: &Graph<N>, last: &Graph<N>) -> TypeSize
     }
 }
 
-/// The main graph of type t in N places.
-fn main_graph<const N: usize>(
+/// The main graph of type t in N places, where it has not more arcs than there is room for.
+pub fn main_graph<const N: usize>(
     alloc: Global,
     instance: &Instance,
     t: u32,
