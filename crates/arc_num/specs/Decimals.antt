@@ -1,5 +1,5 @@
 -- Numbers in decimal digits.
-use Rattle.std.specs.Prelude.{ℕ, suc, ◌+◌, ◌-◌, ◌*◌, ◌^◌, Bool, ◌&&◌, not, ◌==◌, nat_lt, if◌then◌else◌, List, [], ◌∷◌, length, ◌++◌, Option, Some, None, ℤ, pos, negsuc, codes, decimal}
+use Rattle.std.specs.Prelude.{◌≡◌, ◌<◌, true, ℕ, suc, ◌+◌, ◌-◌, ◌*◌, ◌^◌, Bool, ◌&&◌, not, ◌==◌, nat_lt, if◌then◌else◌, List, [], ◌∷◌, length, ◌++◌, Option, Some, None, ℤ, pos, negsuc, codes, decimal}
 use Rattle.std.specs.List.{list_all}
 use Rattle.std.specs.Char.{is_ascii_digit}
 
@@ -20,3 +20,12 @@ number_of bs = if are_digits bs && nat_lt (value_of bs) (2 ^ 64) then Some (valu
 abbrev pub signed_decimal : ℤ → List ℕ
 signed_decimal (pos n) = decimal n
 signed_decimal (negsuc n) = codes "-" ++ decimal (suc n)
+
+-- the decimal text of a number is of digits alone, and stands for the number
+pub record ReadsBack (n : ℕ) : Type 0 where
+  pub digits : are_digits (decimal n) ≡ true
+  pub value : value_of (decimal n) ≡ n
+
+-- decimal text and value agree, for all numbers of 64 bits
+abbrev pub DecimalsReadBack : Type 0
+DecimalsReadBack = (n : ℕ) → n < 2 ^ 64 → ReadsBack n

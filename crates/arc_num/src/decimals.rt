@@ -3,7 +3,7 @@
 ghost use Rattle.std.specs.Prelude.{◌≡◌, ℕ, ◌+◌, ◌<◌, ◌++◌, OnOk, OnErr, decimal};
 ghost use Rattle.std.specs.List.{list_all};
 ghost use Rattle.std.specs.Char.{is_ascii_digit};
-ghost use Rattle.arc_num.specs.Decimals.{are_digits, number_of, signed_decimal};
+ghost use Rattle.arc_num.specs.Decimals.{are_digits, number_of, signed_decimal, DecimalsReadBack};
 
 use crate::Memory;
 use itoa::Buffer;
@@ -40,6 +40,15 @@ pub fn number(text: &[u8]) -> Option<u64>
     Some(value)
 }
 
+/// Appends bytes as they are.
+pub fn push_bytes(out: &mut Vec<u8>, bytes: &[u8]) -> Result<(), Memory>
+    ensures ok { OnOk result (out.new.items ≡ out.old.items ++ bytes.now) }
+    ensures err { OnErr result (out.new.items ≡ out.old.items) }
+{
+    out.extend_from_slice(bytes)?;
+    Ok(())
+}
+
 /// Appends the decimal text of a number.
 pub fn push_number(out: &mut Vec<u8>, n: u128) -> Result<(), Memory>
     ensures ok { OnOk result (out.new.items ≡ out.old.items ++ decimal n) }
@@ -60,3 +69,8 @@ pub fn push_signed(out: &mut Vec<u8>, n: i64) -> Result<(), Memory>
     out.extend_from_slice(text.as_bytes())?;
     Ok(())
 }
+
+/// A law: the decimal text of a number is of digits alone, and its value is the number.
+pub fn decimals_read_back()
+    ensures { DecimalsReadBack }
+{}

@@ -1,17 +1,19 @@
-//! Limits, tokens and numbers.
+//! Limits, tokens, numbers, and what every crate writes lists and texts with.
 #![tactic(auto)]
 
 use std::alloc::{AllocError, AllocFailed};
 use thiserror::Error;
 
 mod decimals;
+mod listed;
 mod words;
 
-pub use decimals::{is_digits, number, push_number, push_signed};
+pub use decimals::{decimals_read_back, is_digits, number, push_bytes, push_number, push_signed};
+pub use listed::Listed;
 pub use words::{Token, Tokens, tokens_are_the_longest_runs};
 
-/// Dimensions of an instance, at most; at least 1.
-pub const MAX_DIMS: u32 = 8;
+/// Dimensions of an instance, at most; at least 1. Dimensions and caps together are at most as many.
+pub const MAX_DIMS: u32 = 32;
 /// Types of an instance, at most; at least 1.
 pub const MAX_TYPES: u32 = 64;
 /// Items of an instance, at most.
@@ -24,10 +26,16 @@ pub const MAX_ALL_FORMS: u32 = 8_000;
 pub const MAX_VALUE: u32 = 2_147_483_647;
 /// The demand of an item, at most.
 pub const MAX_DEMAND: u32 = 1_000_000;
-/// A scale, an item price, the size of an arc price, a bound or the numerator of a flow, at most.
+/// The cap of an item, at most; at least 1.
+pub const MAX_CAP: u32 = 1_000_000;
+/// The units of all items together, at most: `MAX_ITEMS` times `MAX_DEMAND`.
+pub const MAX_UNITS: u32 = 1_000_000_000;
+/// A number of an exported model, at most in size, and the bound that a certificate claims: 2^62.
 pub const MAX_PRICE: u64 = 4_611_686_018_427_387_904;
 /// Arcs of the main graphs of all types together, at most.
 pub const MAX_ARCS: u32 = 1_000_000;
+/// Numbered arcs of all types together, at most, bin arcs included: `MAX_ARCS` and `MAX_TYPES` together.
+pub const MAX_NUMBERED: u32 = 1_000_064;
 /// Splits that a search may be granted, at most.
 pub const MAX_SPLITS: u32 = 20_000;
 /// Bytes of an instance's text, at most.

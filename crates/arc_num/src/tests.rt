@@ -88,3 +88,24 @@ fn limits_are_those_of_the_product(rt: HostRuntime) {
     assert_eq!(rt; MAX_INSTANCE, 1usize << 26);
     assert_eq!(rt; MAX_CERT, 1u64 << 40);
 }
+
+#[test]
+fn lists_are_put_together(rt: HostRuntime) -> Result<(), Fail> {
+    let alloc = rt.alloc();
+    let mut list = Listed::empty(alloc);
+    list.push(3u32)?;
+    let more = Listed::new(vec![in alloc; 3u32, 4u32]?);
+    assert!(rt; list != more);
+    list.push(4u32)?;
+    assert!(rt; list == more);
+    assert_eq!(rt; list.as_slice().len(), 2);
+    let mut again = Vec::new(list.allocator());
+    again.extend_from_slice(list.into_list().as_slice())?;
+    assert!(rt; again.as_slice() == more.as_slice());
+    let mut text = Vec::new(alloc);
+    push_bytes(&mut text, b"row ")?;
+    push_bytes(&mut text, b"1")?;
+    assert!(rt; text.as_slice() == b"row 1".as_slice());
+    decimals_read_back();
+    Ok(())
+}
