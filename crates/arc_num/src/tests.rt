@@ -74,7 +74,7 @@ fn numbers_are_appended(rt: HostRuntime) -> Result<(), Fail> {
 
 #[test]
 fn limits_are_those_of_the_product(rt: HostRuntime) {
-    assert_eq!(rt; (MAX_DIMS, MAX_TYPES, MAX_ITEMS), (8, 64, 1_000));
+    assert_eq!(rt; (MAX_DIMS, MAX_TYPES, MAX_ITEMS), (32, 64, 1_000));
     assert_eq!(rt;
         (MAX_FORMS, MAX_ALL_FORMS, MAX_DEMAND),
         (64, 8_000, 1_000_000)
