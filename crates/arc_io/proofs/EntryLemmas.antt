@@ -1,7 +1,8 @@
 -- Entries and their bytes.
 use Rattle.std.proofs.Common.{◌≡◌, ℕ, ◌<◌, true, Some, List, [], ◌∷◌, length, drop, get_or, refl, zero, suc, arith, ap, sym}
 use Rattle.std.specs.Str.{bytes_eq}
-use Rattle.arc_io.specs.Entries.{Entry, entry_of, bytes_at}
+use Rattle.arc_io.specs.Entries.{Entry, entry_of}
+use Rattle.arc_io.specs.inner.Readers.{bytes_at}
 
 -- the bytes at a place are those of the entry there
 pub bytes_at-read : (es : List Entry) (i : ℕ) (e : Entry) → i < length es → e ≡ get_or es i e → bytes_at es i ≡ e.bytes

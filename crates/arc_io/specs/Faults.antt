@@ -1,4 +1,4 @@
--- What a call of the outside says of the counts of faults.
+-- What a call of the outside says of the counts of calls and of faults.
 use Rattle.std.specs.Prelude.{◌≡◌, ℕ, ◌+◌, ◌-◌, ◌^◌, ◌<◌, ◌≤◌, min, ◌⊎◌, Result, Ok, Err}
 use Rattle.arc_io.specs.declared.IoFault.{IoFault}
 use Rattle.arc_io.specs.declared.IoFault.TheVariants.{Failed, Memory}
@@ -16,6 +16,16 @@ CountsFault (Err Memory) before after = after ≡ before
 -- the next number of a count that stops at its end
 abbrev pub raised : ℕ → ℕ
 raised n = min (n + 1) (2 ^ 64 - 1)
+
+-- one call more was counted
+abbrev pub CountsCall : ℕ → ℕ → Type 0
+CountsCall before after = after ≡ raised before
+
+-- one call more was counted where it found no memory, and none in every other case
+abbrev pub CountsMemory : {T : Type 0} → Result T IoFault → ℕ → ℕ → Type 0
+CountsMemory (Ok x) before after = after ≡ before
+CountsMemory (Err Failed) before after = after ≡ before
+CountsMemory (Err Memory) before after = after ≡ raised before
 
 -- the count after a call: one more where the call failed
 abbrev pub counted : {T : Type 0} → Result T IoFault → ℕ → ℕ

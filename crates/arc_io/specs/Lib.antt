@@ -3,4 +3,4 @@ pub mod Bytes
 pub mod Entries
 pub mod Calls
 pub mod Stores
-pub mod System
+pub mod inner

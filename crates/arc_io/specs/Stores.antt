@@ -22,11 +22,18 @@ pub record MemShelfValue : Type 0 where
   pub read_faults : ℕ
   pub write_faults : ℕ
 
--- a sink whose calls are counted, what it took, and its count of faults
+-- a sink whose calls are counted, what it took, its count of faults, and its count of calls that found no memory
 pub record MemSinkValue : Type 0 where
   pub taken : List ℕ
   pub calls : CallsValue
   pub faults : ℕ
+  pub starved : ℕ
+
+-- what a sink took, and how many calls it had and how many of these found no memory
+pub record SureSinkValue : Type 0 where
+  pub taken : List ℕ
+  pub puts : ℕ
+  pub starved : ℕ
 
 -- nothing is started, asked for or written
 abbrev pub new_store : List Entry → ℕ → StoreValue
@@ -38,7 +45,11 @@ new_mem_shelf held failing most = record { store = new_store held most; calls = 
 
 -- a sink of which no call was made and no call failed
 abbrev pub new_mem_sink : List ℕ → MemSinkValue
-new_mem_sink failing = record { taken = []; calls = new_calls failing; faults = 0 }
+new_mem_sink failing = record { taken = []; calls = new_calls failing; faults = 0; starved = 0 }
+
+-- a sink that never fails, of which no call was made
+abbrev pub new_sure_sink : SureSinkValue
+new_sure_sink = record { taken = []; puts = 0; starved = 0 }
 
 -- a start gives the held bytes, from the first on
 abbrev pub after_start : {T : Type 0} → Result T IoFault → List ℕ → StoreValue → StoreValue

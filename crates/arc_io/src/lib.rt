@@ -4,16 +4,20 @@
 
 mod calls;
 mod memory;
+mod sinks;
 mod stores;
+mod streams;
 mod sure;
 mod system;
 #[cfg(test)]
 mod tests;
 
-pub use memory::{MemShelf, MemSink};
+pub use memory::MemShelf;
+pub use sinks::{MemSink, SureSink};
 use std::marker::Model;
-pub use sure::{SureShelf, SureSink};
-pub use system::{ErrSink, FileShelf, OutSink};
+pub use streams::{ErrSink, OutSink};
+pub use sure::SureShelf;
+pub use system::FileShelf;
 use thiserror::Error;
 
 /// Why a call of the outside was refused.
@@ -144,17 +148,25 @@ pub trait Shelf {
 /// Takes bytes, one after another.
 pub trait Sink {
     ghost use Rattle.std.specs.Prelude.{ℕ};
-    ghost use Rattle.arc_io.specs.Faults.{CountsFault};
+    ghost use Rattle.arc_io.specs.Faults.{CountsCall, CountsFault, CountsMemory};
     ghost use Rattle.arc_io.specs.Bytes.{Told, Appends};
 
     /// All that was put.
     ghost taken: { Self → Told };
 
+    /// How many puts there were, up to 2^64-1.
+    ghost puts: { Self → ℕ };
+
     /// How many puts failed.
     ghost faults: { Self → ℕ };
 
+    /// How many puts found no memory, up to 2^64-1.
+    ghost starved: { Self → ℕ };
+
     /// Writes bytes to the end.
     fn put(&mut self, bytes: &[u8]) -> Result<(), IoFault>
+        ensures puts { CountsCall (puts self.old) (puts self.new) }
+        ensures starved { CountsMemory result (starved self.old) (starved self.new) }
         ensures faults { CountsFault result (faults self.old) (faults self.new) }
         ensures appends { Appends result bytes.now (taken self.old) (taken self.new) };
 }

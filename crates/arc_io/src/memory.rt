@@ -1,13 +1,12 @@
-//! A shelf and a sink in memory, of which chosen calls fail.
+//! A shelf in memory, of which chosen calls fail.
 ghost use Rattle.std.specs.Prelude.{◌≡◌, ◌<◌};
 ghost use Rattle.std.specs.Option.{option_copied};
 ghost use Rattle.arc_io.specs.Entries.{entry_of};
-ghost use Rattle.arc_io.specs.Faults.{Rose, raised};
-ghost use Rattle.arc_io.specs.Stores.{new_mem_shelf, new_mem_sink};
+ghost use Rattle.arc_io.specs.Stores.{new_mem_shelf};
 
-use crate::calls::{Calls, next_count};
+use crate::calls::{Calls, counted_fault};
 use crate::stores::Store;
-use crate::{IoFault, NamedBytes, Shelf, Sink};
+use crate::{IoFault, NamedBytes, Shelf};
 use std::alloc::Global;
 use std::marker::Model;
 
@@ -74,24 +73,6 @@ impl MemShelf {
     {
         self.store.written_of(name)
     }
-
-    fn read_fault(&mut self) -> IoFault
-        ensures failed { result ≡ IoFault.Failed }
-        ensures rose { Rose self.old.read_faults self.new.read_faults }
-        ensures after { self.new ≡ record self.old { read_faults = raised self.old.read_faults } }
-    {
-        self.read_faults = next_count(self.read_faults);
-        IoFault::Failed
-    }
-
-    fn write_fault(&mut self) -> IoFault
-        ensures failed { result ≡ IoFault.Failed }
-        ensures rose { Rose self.old.write_faults self.new.write_faults }
-        ensures after { self.new ≡ record self.old { write_faults = raised self.old.write_faults } }
-    {
-        self.write_faults = next_count(self.write_faults);
-        IoFault::Failed
-    }
 }
 
 impl Shelf for MemShelf {
@@ -135,7 +116,7 @@ impl Shelf for MemShelf {
         };
         if is_listed || !is_held {
             self.store.end_reading();
-            return Err(self.read_fault());
+            return Err(counted_fault(IoFault::Failed, &mut self.read_faults));
         }
         Ok(())
     }
@@ -155,7 +136,7 @@ impl Shelf for MemShelf {
         ensures writes { self.new.write_faults ≡ self.old.write_faults }
     {
         if self.calls.count() {
-            return Err(self.read_fault());
+            return Err(counted_fault(IoFault::Failed, &mut self.read_faults));
         }
         Ok(self.store.more(into))
     }
@@ -175,7 +156,7 @@ impl Shelf for MemShelf {
             if self.store.ask(name).is_err() {
                 return Err(IoFault::Memory);
             }
-            return Err(self.write_fault());
+            return Err(counted_fault(IoFault::Failed, &mut self.write_faults));
         }
         match self.store.create(name) {
             Ok(()) => Ok(()),
@@ -195,7 +176,7 @@ impl Shelf for MemShelf {
         ensures counted { self.new.write_faults ≡ counted result self.old.write_faults }
     {
         if self.calls.count() {
-            return Err(self.write_fault());
+            return Err(counted_fault(IoFault::Failed, &mut self.write_faults));
         }
         match self.store.put(bytes) {
             Ok(()) => Ok(()),
@@ -216,79 +197,8 @@ impl Shelf for MemShelf {
     {
         self.store.close();
         if self.calls.count() {
-            return Err(self.write_fault());
+            return Err(counted_fault(IoFault::Failed, &mut self.write_faults));
         }
         Ok(())
-    }
-}
-
-/// A sink in memory. Its calls are counted from 1, and those whose numbers are listed fail.
-#[derive(Debug, Drop)]
-pub struct MemSink {
-    taken: Vec<u8>,
-    calls: Calls,
-    faults: u64,
-}
-
-impl Model for MemSink {
-    ghost use Rattle.arc_io.specs.Stores.{MemSinkValue};
-
-    ghost Value = { MemSinkValue };
-
-    ghost view = { λ s. record { taken = s.taken.items; calls = s.calls; faults = s.faults } };
-}
-
-impl MemSink {
-    pub fn new(alloc: Global, failing: Vec<u64>) -> Self
-        ensures { result ≡ new_mem_sink failing.items }
-    {
-        MemSink {
-            taken: Vec::new(alloc),
-            calls: Calls::new(failing),
-            faults: 0,
-        }
-    }
-
-    /// How many puts failed, up to 2^64-1.
-    pub fn faults(&self) -> u64
-        ensures { result ≡ self.now.faults }
-    {
-        self.faults
-    }
-
-    /// All that was put.
-    pub fn bytes(&self) -> &[u8]
-        ensures { result.now ≡ self.now.taken }
-    {
-        self.taken.as_slice()
-    }
-}
-
-impl Sink for MemSink {
-    ghost use Rattle.std.specs.Prelude.{◌≡◌, Some, OnOk, OnErr, ◌++◌};
-    ghost use Rattle.arc_io.specs.Calls.{IsListed, next_call};
-    ghost use Rattle.arc_io.specs.Faults.{CountsFault, FailsWhere, counted};
-
-    ghost taken = { λ s. Some s.taken };
-
-    ghost faults = { λ s. s.faults };
-
-    /// Fails exactly where its number is listed. Appends all of the bytes, or none.
-    fn put(&mut self, bytes: &[u8]) -> Result<(), IoFault>
-        ensures fails { FailsWhere result (IsListed self.old.calls) }
-        ensures ok { OnOk result (self.new.taken ≡ self.old.taken ++ bytes.now) }
-        ensures err { OnErr result (self.new.taken ≡ self.old.taken) }
-        ensures calls { self.new.calls ≡ next_call self.old.calls }
-        ensures faults { CountsFault result self.old.faults self.new.faults }
-        ensures counted { self.new.faults ≡ counted result self.old.faults }
-    {
-        if self.calls.count() {
-            self.faults = next_count(self.faults);
-            return Err(IoFault::Failed);
-        }
-        match self.taken.extend_from_slice(bytes) {
-            Ok(()) => Ok(()),
-            Err(_) => Err(IoFault::Memory),
-        }
     }
 }

@@ -1,7 +1,8 @@
 //! Named bytes in memory, which are read piece by piece and written.
 ghost use Rattle.std.specs.Prelude.{◌≡◌, ◌<◌, ◌↔◌, true, false, [], ◌∷◌, ◌++◌, IsTrue, IsSome, OnOk, OnErr, IfOk, IfSome, IfNone, length, take, drop, min};
 ghost use Rattle.std.specs.Option.{option_copied};
-ghost use Rattle.arc_io.specs.Entries.{entry_of, bytes_at, bytes_of, first_name, appended};
+ghost use Rattle.arc_io.specs.Entries.{entry_of, bytes_of, first_name, appended};
+ghost use Rattle.arc_io.specs.inner.Readers.{bytes_at};
 ghost use Rattle.arc_io.specs.Stores.{new_store};
 
 use crate::NamedBytes;
@@ -56,7 +57,7 @@ pub struct Store {
 
 impl Model for Store {
     ghost use Rattle.std.specs.Prelude.{◌≡◌, ◌<◌, ◌≤◌, true, length, string_bytes};
-    ghost use Rattle.arc_io.specs.Entries.{left_at, IsReader};
+    ghost use Rattle.arc_io.specs.inner.Readers.{left_at, IsReader};
     ghost use Rattle.arc_io.specs.Stores.{StoreValue};
 
     ghost Value = { StoreValue };

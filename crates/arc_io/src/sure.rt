@@ -1,11 +1,11 @@
-//! A shelf and a sink in memory that never fail.
-ghost use Rattle.std.specs.Prelude.{◌≡◌, []};
+//! A shelf in memory that never fails.
+ghost use Rattle.std.specs.Prelude.{◌≡◌};
 ghost use Rattle.std.specs.Option.{option_copied};
 ghost use Rattle.arc_io.specs.Entries.{entry_of};
 ghost use Rattle.arc_io.specs.Stores.{new_store};
 
 use crate::stores::Store;
-use crate::{IoFault, NamedBytes, Shelf, Sink};
+use crate::{IoFault, NamedBytes, Shelf};
 use std::alloc::Global;
 use std::marker::Model;
 
@@ -134,64 +134,5 @@ impl Shelf for SureShelf {
     {
         self.store.close();
         Ok(())
-    }
-}
-
-/// A sink in memory that never fails.
-#[derive(Debug, Drop)]
-pub struct SureSink {
-    taken: Vec<u8>,
-}
-
-impl Model for SureSink {
-    ghost use Rattle.std.specs.Prelude.{List, ℕ};
-
-    ghost Value = { List ℕ };
-
-    ghost view = { λ s. s.taken.items };
-}
-
-impl SureSink {
-    pub fn new(alloc: Global) -> Self
-        ensures { result ≡ [] }
-    {
-        SureSink {
-            taken: Vec::new(alloc),
-        }
-    }
-
-    /// Always 0.
-    pub fn faults(&self) -> u64
-        ensures { result ≡ 0 }
-    {
-        0
-    }
-
-    /// All that was put.
-    pub fn bytes(&self) -> &[u8]
-        ensures { result.now ≡ self.now }
-    {
-        self.taken.as_slice()
-    }
-}
-
-impl Sink for SureSink {
-    ghost use Rattle.std.specs.Prelude.{◌≡◌, Some, OnOk, OnErr, ◌++◌};
-    ghost use Rattle.arc_io.specs.Faults.{NeverFails};
-
-    ghost taken = { λ s. Some s };
-
-    ghost faults = { λ s. 0 };
-
-    /// Never fails. Appends all of the bytes, or none.
-    fn put(&mut self, bytes: &[u8]) -> Result<(), IoFault>
-        ensures sure { NeverFails result }
-        ensures ok { OnOk result (self.new ≡ self.old ++ bytes.now) }
-        ensures err { OnErr result (self.new ≡ self.old) }
-    {
-        match self.taken.extend_from_slice(bytes) {
-            Ok(()) => Ok(()),
-            Err(_) => Err(IoFault::Memory),
-        }
     }
 }

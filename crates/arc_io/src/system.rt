@@ -1,14 +1,14 @@
-//! The real files and streams. Nothing is told of their bytes.
+//! The real files. Nothing is told of their bytes.
 ghost use Rattle.std.specs.Prelude.{◌≡◌, ◌≤◌, IfOk, MatchResult, length};
 ghost use Rattle.arc_io.specs.Faults.{CountsFault, counted};
-ghost use Rattle.arc_io.specs.System.{fault_of_kind};
+ghost use Rattle.arc_io.specs.inner.System.{fault_of_kind};
 ghost use Rattle.std.specs.IoError.{error_kind};
 
-use crate::calls::next_count;
-use crate::{IoFault, Shelf, Sink};
+use crate::calls::counted_fault;
+use crate::{IoFault, Shelf};
 use std::alloc::Global;
 use std::fs::File;
-use std::io::{ErrorKind, Print, Read, Write};
+use std::io::{ErrorKind, Read, Write};
 use std::{fs, io};
 
 fn fault_of(error: &io::Error) -> IoFault
@@ -21,20 +21,17 @@ fn fault_of(error: &io::Error) -> IoFault
 }
 
 /// Turns an error into a fault, and counts it where it is no want of memory.
-fn count_fault<T>(outcome: io::Result<T>, count: &mut u64) -> Result<T, IoFault>
+pub fn count_fault<T>(outcome: io::Result<T>, count: &mut u64) -> Result<T, IoFault>
     ensures faults { CountsFault result count.old count.new }
     ensures value { MatchResult outcome (λ value. result ≡ Ok value) (λ error. result ≡ Err (fault_of_kind (error_kind error))) }
     ensures counted { count.new ≡ counted result count.old }
 {
     match outcome {
         Ok(value) => Ok(value),
-        Err(error) => {
-            let fault = fault_of(&error);
-            if fault == IoFault::Failed {
-                *count = next_count(*count);
-            }
-            Err(fault)
-        }
+        Err(error) => match fault_of(&error) {
+            IoFault::Failed => Err(counted_fault(IoFault::Failed, count)),
+            IoFault::Memory => Err(IoFault::Memory),
+        },
     }
 }
 
@@ -157,60 +154,6 @@ impl Shelf for FileShelf {
     }
 }
 
-/// Standard output. A put is with the system when it answers.
-#[derive(Drop)]
-pub struct OutSink {
-    rt: HostRuntime,
-    faults: u64,
-}
-
-impl OutSink {
-    pub fn new(rt: &HostRuntime, _alloc: Global) -> Self
-        ensures { ⟦<OutSink as Sink>⟧.faults result ≡ 0 }
-    {
-        OutSink { rt: *rt, faults: 0 }
-    }
-}
-
-impl Sink for OutSink {
-    ghost use Rattle.std.specs.Prelude.{None};
-
-    ghost taken = { λ s. None };
-
-    ghost faults = { λ s. s.faults };
-
-    fn put(&mut self, bytes: &[u8]) -> Result<(), IoFault> {
-        count_fault(self.rt.stdout().write_all(bytes), &mut self.faults)
-    }
-}
-
-/// Standard error. A put is with the system when it answers.
-#[derive(Drop)]
-pub struct ErrSink {
-    rt: HostRuntime,
-    faults: u64,
-}
-
-impl ErrSink {
-    pub fn new(rt: &HostRuntime, _alloc: Global) -> Self
-        ensures { ⟦<ErrSink as Sink>⟧.faults result ≡ 0 }
-    {
-        ErrSink { rt: *rt, faults: 0 }
-    }
-}
-
-impl Sink for ErrSink {
-    ghost use Rattle.std.specs.Prelude.{None};
-
-    ghost taken = { λ s. None };
-
-    ghost faults = { λ s. s.faults };
-
-    fn put(&mut self, bytes: &[u8]) -> Result<(), IoFault> {
-        count_fault(self.rt.stderr().write_all(bytes), &mut self.faults)
-    }
-}
-
 #[cfg(test)]
 mod tests {
     use super::*;
@@ -248,21 +191,5 @@ mod tests {
         assert_eq!(rt; shelf.create("/tmp/no/such/file"), Err(IoFault::Failed));
         assert_eq!(rt; shelf.read_faults, 1);
         assert_eq!(rt; shelf.write_faults, 1);
-    }
-
-    #[test]
-    fn out_sink_takes(rt: HostRuntime) -> Result<(), Fail> {
-        let mut sink = OutSink::new(&rt, rt.alloc());
-        sink.put(b"to standard output\n")?;
-        assert_eq!(rt; sink.faults, 0);
-        Ok(())
-    }
-
-    #[test]
-    fn err_sink_takes(rt: HostRuntime) -> Result<(), Fail> {
-        let mut sink = ErrSink::new(&rt, rt.alloc());
-        sink.put(b"to standard error\n")?;
-        assert_eq!(rt; sink.faults, 0);
-        Ok(())
     }
 }

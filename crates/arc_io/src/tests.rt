@@ -98,6 +98,8 @@ fn mem_sink_fails_at_first(rt: HostRuntime) -> Result<(), Fail> {
     assert_eq!(rt; sink.faults(), 1);
     assert_eq!(rt; put(&mut sink, b"ab"), Ok(()));
     assert_eq!(rt; sink.bytes(), b"ab".as_slice());
+    assert_eq!(rt; sink.puts(), 2);
+    assert_eq!(rt; sink.starved(), 0);
     Ok(())
 }
 
@@ -121,5 +123,6 @@ fn sure_sink_takes(rt: HostRuntime) {
     let mut sink = SureSink::new(rt.alloc());
     assert_eq!(rt; put(&mut sink, b"ab"), Ok(()));
     assert_eq!(rt; sink.bytes(), b"ab".as_slice());
-    assert_eq!(rt; sink.faults(), 0);
+    assert_eq!(rt; sink.puts(), 1);
+    assert_eq!(rt; sink.faults() + sink.starved(), 0);
 }
