@@ -1,0 +1,14 @@
+//! The words of the command line: what they ask for, by one table, and the first faulty word.
+#![tactic(auto)]
+
+mod checks;
+mod commands;
+mod faults;
+mod found;
+mod parts;
+mod table;
+#[cfg(test)]
+mod tests;
+
+pub use commands::{Command, Source, read_words};
+pub use faults::{WordFault, push_word_fault};

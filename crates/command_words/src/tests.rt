@@ -1,0 +1,203 @@
+//! The rows that the words of the command line are known by, also over shapes that no command has yet.
+use crate::found::Found;
+use crate::table::{PlainWord, Setting, Shape};
+use crate::{Command, WordFault, push_word_fault, read_words};
+use std::alloc::{AllocError, Global};
+use std::test::Fail;
+
+/// Words that stand apart by one blank each. The empty text has no word.
+fn split_words(alloc: Global, words: &str) -> Result<Vec<String>, AllocError> {
+    let mut list = Vec::new(alloc);
+    if words.is_empty() {
+        return Ok(list);
+    }
+    for word in words.split(' ') {
+        list.push(String::from_str(alloc, word)?)?;
+    }
+    Ok(list)
+}
+
+/// These plain words, with every option.
+fn every_option(first: PlainWord, second: Option<PlainWord>) -> Shape {
+    Shape {
+        first,
+        second,
+        mvp: true,
+        joint: true,
+        nodes: true,
+        cert: true,
+        workers: true,
+    }
+}
+
+const ANY_SEED: PlainWord = PlainWord::Number {
+    least: 0,
+    most: u64::MAX,
+};
+
+const SOME_SIZE: PlainWord = PlainWord::Number {
+    least: 1,
+    most: 1_000,
+};
+
+fn found(alloc: Global, shape: Shape, words: &str) -> Result<Found, WordFault> {
+    match split_words(alloc, words) {
+        Ok(words) => Found::read(alloc, shape, words.as_slice()),
+        Err(_) => Err(WordFault::Memory),
+    }
+}
+
+fn fault(alloc: Global, shape: Shape, words: &str) -> Option<WordFault> {
+    match found(alloc, shape, words) {
+        Ok(_) => None,
+        Err(fault) => Some(fault),
+    }
+}
+
+fn command(alloc: Global, words: &str) -> Result<Command, WordFault> {
+    match split_words(alloc, words) {
+        Ok(words) => read_words(alloc, words.as_slice()),
+        Err(_) => Err(WordFault::Memory),
+    }
+}
+
+#[test]
+fn commands_are_read(rt: HostRuntime) -> Result<(), Fail> {
+    let compile = command(rt.alloc(), "compile a.mvp")?;
+    assert!(rt; matches!(&compile, Command::Compile { .. }) && compile.makes_graphs());
+    assert_eq!(rt;
+        (compile.source().name, compile.source().mvp),
+        ("a.mvp", true)
+    );
+    let solve = command(rt.alloc(), "solve --mvp -- --a")?;
+    assert!(rt; matches!(&solve, Command::Solve { .. }) && !solve.makes_graphs());
+    assert_eq!(rt; (solve.source().name, solve.source().mvp), ("--a", true));
+    let export = command(rt.alloc(), "export -")?;
+    assert!(rt; matches!(&export, Command::Export { .. }) && export.makes_graphs());
+    assert!(rt; !export.source().mvp);
+    assert_eq!(rt; export.into_name().as_str(), "-");
+    Ok(())
+}
+
+#[test]
+fn first_faulty_words_are_named(rt: HostRuntime) {
+    for (words, fault) in [
+        ("", WordFault::NoCommand),
+        ("--mvp solve", WordFault::NoSuchCommand { word: 1 }),
+        ("solve", WordFault::TooFewWords),
+        ("compile a --cert b", WordFault::NoSuchOption { word: 3 }),
+        ("solve a --mvp --mvp=1", WordFault::Repeated { word: 4 }),
+        ("solve a --mvp=1 b", WordFault::BadValue { word: 3 }),
+        ("export a b", WordFault::TooManyWords { word: 3 }),
+        ("export  --joint", WordFault::BadName { word: 2 }),
+    ] {
+        match command(rt.alloc(), words) {
+            Ok(_) => panic!(rt; "{words} is read"),
+            Err(told) => assert_eq!(rt; told, fault, "{words}"),
+        }
+    }
+}
+
+#[test]
+fn values_are_checked_at_their_word(rt: HostRuntime) {
+    let shape = every_option(PlainWord::Instance, None);
+    for (words, told) in [
+        ("a --nodes 20001", Some(WordFault::BadValue { word: 4 })),
+        (
+            "a --nodes=5 --nodes 6",
+            Some(WordFault::Repeated { word: 4 }),
+        ),
+        ("a --nodes", Some(WordFault::NoValue { word: 3 })),
+        ("a --nodes=", Some(WordFault::BadValue { word: 3 })),
+        ("a --workers 0", Some(WordFault::BadValue { word: 4 })),
+        ("a --workers=65 b", Some(WordFault::BadValue { word: 3 })),
+        ("a --joint=1", Some(WordFault::BadValue { word: 3 })),
+        ("a --cert -", Some(WordFault::BadValue { word: 4 })),
+        ("--cert -- b --mvp", None),
+        ("--nodes 00000000000000020000 a", None),
+        (
+            "--nodes 000000000000000020000 a",
+            Some(WordFault::BadValue { word: 3 }),
+        ),
+    ] {
+        assert_eq!(rt; fault(rt.alloc(), shape, words), told, "{words}");
+    }
+}
+
+#[test]
+fn two_plain_words_are_checked(rt: HostRuntime) {
+    let check = every_option(PlainWord::Instance, Some(PlainWord::Certificate));
+    assert_eq!(rt;
+        fault(rt.alloc(), check, "- -"),
+        Some(WordFault::BadName { word: 3 })
+    );
+    assert_eq!(rt; fault(rt.alloc(), check, "- a"), None);
+    assert_eq!(rt; fault(rt.alloc(), check, "a"), Some(WordFault::TooFewWords));
+    let extract = every_option(PlainWord::Instance, Some(PlainWord::Solution));
+    assert_eq!(rt;
+        fault(rt.alloc(), extract, "a "),
+        Some(WordFault::BadName { word: 3 })
+    );
+    let make = every_option(ANY_SEED, Some(SOME_SIZE));
+    assert_eq!(rt; fault(rt.alloc(), make, "18446744073709551615 1000"), None);
+    assert_eq!(rt;
+        fault(rt.alloc(), make, "18446744073709551616 1"),
+        Some(WordFault::BadValue { word: 2 })
+    );
+    assert_eq!(rt;
+        fault(rt.alloc(), make, "0 0"),
+        Some(WordFault::BadValue { word: 3 })
+    );
+}
+
+#[test]
+fn values_are_found(rt: HostRuntime) -> Result<(), Fail> {
+    let shape = every_option(PlainWord::Instance, Some(PlainWord::Certificate));
+    let found = found(rt.alloc(), shape, "--cert=b=c a --nodes 007 -- --mvp")?;
+    assert_eq!(rt; found.plain(0), Some("a"));
+    assert_eq!(rt; found.plain(1), Some("--mvp"));
+    assert_eq!(rt; found.value(Setting::Cert), Some("b=c"));
+    assert_eq!(rt; found.number(Setting::Nodes), Some(7));
+    assert_eq!(rt; found.number(Setting::Workers), None);
+    assert!(rt; found.has(Setting::Cert) && !found.has(Setting::Mvp));
+    Ok(())
+}
+
+#[test]
+fn lines_are_said(rt: HostRuntime) -> Result<(), Fail> {
+    for (fault, said) in [
+        (WordFault::NoCommand, "vpack: no command\n"),
+        (
+            WordFault::NoSuchCommand { word: 1 },
+            "vpack: word 1: no such command\n",
+        ),
+        (
+            WordFault::NoSuchOption { word: 2 },
+            "vpack: word 2: no such option\n",
+        ),
+        (
+            WordFault::Repeated { word: 3 },
+            "vpack: word 3: option repeated\n",
+        ),
+        (
+            WordFault::NoValue { word: 4 },
+            "vpack: word 4: value missing\n",
+        ),
+        (
+            WordFault::TooManyWords { word: 5 },
+            "vpack: word 5: one word too many\n",
+        ),
+        (
+            WordFault::BadValue { word: 16 },
+            "vpack: word 16: bad value\n",
+        ),
+        (WordFault::BadName { word: 7 }, "vpack: word 7: bad name\n"),
+        (WordFault::TooFewWords, "vpack: too few words\n"),
+        (WordFault::Memory, "vpack: out of memory\n"),
+    ] {
+        let mut line = Vec::new(rt.alloc());
+        push_word_fault(&mut line, fault)?;
+        assert_eq!(rt; line.as_slice(), said.as_bytes());
+    }
+    Ok(())
+}
