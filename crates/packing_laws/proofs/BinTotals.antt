@@ -8,7 +8,7 @@ use Rattle.packing_laws.specs.Instances.{InstanceValue, type_at}
 use Rattle.packing_laws.specs.Packings.{Content, Fits, cost_at, cost_of, count_of_item}
 use Rattle.packing_laws.specs.Printed.{bins_of, SameContent, IsWrittenPacking}
 use Rattle.packing_laws.proofs.WrittenSums.{sum_by-bins_of}
-use Rattle.packing_laws.proofs.WrittenPackings.{IsWrittenPacking-made, used_of-bins_of, count_of_item-bins_of}
+use Rattle.packing_laws.proofs.WrittenPackings.{IsWrittenPacking-made, limit-less, used_of-bins_of, count_of_item-bins_of}
 use Rattle.packing_laws.proofs.SameContents.{same-item}
 
 -- a bin that is written, as one that is meant
@@ -31,10 +31,6 @@ of_item i b = count_of_item i b.1
 
 abbrev pub priced : InstanceValue → ℕ × Content → ℕ
 priced I b = cost_at I b.0
-
-limit-less : (limit : Option ℕ) (m n : ℕ) → n ≤ m → IfSome limit (λ q. m ≤ q) → IfSome limit (λ q. n ≤ q)
-limit-less None m n less within = tt
-limit-less (Some q) m n less within = omega arith
 
 -- bins that fit, with no more of any type, as many units of each item and no more cost
 pub kept : (I : InstanceValue) (old new : List Bin) → All (λ (b : Bin). Fits I b.bin_type b.counts) new → IsWrittenPacking I old → ((t : ℕ) → total (in_type t) new ≤ total (in_type t) old) → ((i : ℕ) → total (of_item i) new ≡ total (of_item i) old) → total (priced I) new ≤ total (priced I) old → IsWrittenPacking I new × (cost_of I (bins_of new) ≤ cost_of I (bins_of old))

@@ -6,11 +6,12 @@ use Rattle.std.proofs.lemmas.List.Elements.{All-append, All-push, All-set}
 use Rattle.std.proofs.lemmas.List.Quantifiers.{all_pairs_push}
 use Rattle.std.proofs.lemmas.List.Sums.{sum_by-append, sum_by_push, sum_by-set, get_or-le-sum_by}
 use Rattle.std.proofs.Math.Nat.{mul-le-mul_right}
+use Rattle.arc_num.specs.declared.TheConstants.{MAX_UNITS}
 use Rattle.packing_laws.specs.declared.packings.Bin.{Bin}
 use Rattle.packing_laws.specs.Instances.{InstanceValue, IsInstance}
 use Rattle.packing_laws.specs.Packings.{Content, Fits}
 use Rattle.packing_laws.specs.Printed.{units_in, IsWrittenPacking}
-use Rattle.packing_laws.specs.Joining.{StayApart, AreApart, AreJoined, IsSharedType, IsPartner, IsMadeOf, IsStep}
+use Rattle.packing_laws.specs.inner.Joining.{StayApart, AreApart, AreJoined, IsSharedType, IsPartner, IsMadeOf, IsStep}
 use Rattle.packing_laws.proofs.TidyLaws.{same-fits}
 use Rattle.packing_laws.proofs.WrittenUnits.{written-units}
 use Rattle.packing_laws.proofs.BinTotals.{pair_of, at_times, total, in_type, of_item, priced, total-three, kept, exchanged, exchange-with, exchange-alike}
@@ -41,10 +42,10 @@ module _ (I : InstanceValue) (waiting done : List Bin) (b : Bin) (packing : IsWr
   pub done-fit : All (FitsItsType I) done
   done-fit = All-right (FitsItsType I) (waiting ++ b ∷ []) done packing.fits
 
-  units-three : IsInstance I → sum_by (λ c. c.times * units_in c.counts) waiting + b.times * units_in b.counts + sum_by (λ c. c.times * units_in c.counts) done ≤ 1000000000
+  units-three : IsInstance I → sum_by (λ c. c.times * units_in c.counts) waiting + b.times * units_in b.counts + sum_by (λ c. c.times * units_in c.counts) done ≤ MAX_UNITS
   units-three inside =
       let whole : total (λ c. units_in c.1) ((waiting ++ b ∷ []) ++ done) ≡ total (λ c. units_in c.1) waiting + b.times * units_in b.counts + total (λ c. units_in c.1) done = total-three (λ c. units_in c.1) waiting done b in
-      let most : total (λ c. units_in c.1) ((waiting ++ b ∷ []) ++ done) ≤ 1000000000 = written-units I ((waiting ++ b ∷ []) ++ done) inside packing in
+      let most : total (λ c. units_in c.1) ((waiting ++ b ∷ []) ++ done) ≤ MAX_UNITS = written-units I ((waiting ++ b ∷ []) ++ done) inside packing in
       omega arith
 
   -- the units of a bin that is done and of this one
@@ -52,7 +53,7 @@ module _ (I : InstanceValue) (waiting done : List Bin) (b : Bin) (packing : IsWr
   both-small inside k d within used also =
       let f : Bin → ℕ = λ c. c.times * units_in c.counts in
       let y : Bin = get_or done k d in
-      let most : sum_by f waiting + f b + sum_by f done ≤ 1000000000 = units-three inside in
+      let most : sum_by f waiting + f b + sum_by f done ≤ MAX_UNITS = units-three inside in
       let part : f y ≤ sum_by f done = get_or-le-sum_by f done k d within in
       let own : 1 * units_in b.counts ≤ b.times * units_in b.counts = mul-le-mul_right (units_in b.counts) used in
       let its : 1 * units_in y.counts ≤ y.times * units_in y.counts = mul-le-mul_right (units_in y.counts) also in
@@ -62,7 +63,7 @@ module _ (I : InstanceValue) (waiting done : List Bin) (b : Bin) (packing : IsWr
   pub alike-small : IsInstance I → 1 < b.times → units_in b.counts + units_in b.counts < 2 ^ 32
   alike-small inside used =
       let f : Bin → ℕ = λ c. c.times * units_in c.counts in
-      let most : sum_by f waiting + f b + sum_by f done ≤ 1000000000 = units-three inside in
+      let most : sum_by f waiting + f b + sum_by f done ≤ MAX_UNITS = units-three inside in
       let own : 2 * units_in b.counts ≤ b.times * units_in b.counts = mul-le-mul_right (units_in b.counts) used in
       omega arith
 

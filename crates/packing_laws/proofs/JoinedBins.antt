@@ -13,10 +13,11 @@ use Rattle.packing_laws.specs.declared.packings.Bin.{Bin}
 use Rattle.packing_laws.specs.Instances.{InstanceValue, form_at, type_at}
 use Rattle.packing_laws.specs.Packings.{Content, Bins, Exists, Fits, IsJoined, weight_in}
 use Rattle.packing_laws.specs.Printed.{bins_of, filled_bins, units_in, AreAlike, IsTidied, IsWrittenPacking}
-use Rattle.packing_laws.specs.Joining.{StayApart, AreJoined}
+use Rattle.packing_laws.specs.inner.Joining.{StayApart, AreJoined}
 use Rattle.packing_laws.proofs.Sums.{All-first, All-others}
 use Rattle.packing_laws.proofs.Rearranged.{IsAlike, AreAlike-at, AreAlike-length}
 use Rattle.packing_laws.proofs.SameContents.{same-weight}
+use Rattle.packing_laws.proofs.CapLaws.{caps-alike, caps-swapped}
 use Rattle.packing_laws.proofs.BinTotals.{pair_of}
 
 -- pairs of two lists one after the other
@@ -75,6 +76,7 @@ swapped-fits I t c d one other fits = record {
       let second : weight_in I k (d ++ c) ≡ weight_in I k d + weight_in I k c = sum_by-append weigh d c in
       let most : weight_in I k (c ++ d) ≤ slice_index (type_at I t).cap (k - 1) = fits.weight k among in
       omega arith;
+  caps = caps-swapped I c d fits.caps;
 }
 
 -- bins with what exists, that stay apart
@@ -140,6 +142,7 @@ alike-fits I t b c e f one other exists_one exists_other fits = record {
       let same_other : weight_in I k c.1 ≡ weight_in I k f.1 = same-weight I k c.1 f.1 other.1 in
       let most : weight_in I k (e.1 ++ f.1) ≤ slice_index (type_at I t).cap (k - 1) = fits.weight k among in
       omega arith;
+  caps = caps-alike I b.1 c.1 e.1 f.1 one.1 other.1 fits.caps;
 }
 
 -- pairs of bins that are alike stay apart too

@@ -13,8 +13,12 @@ pub mod TidyOrders
 pub mod Rearranged
 pub mod TidyParts
 pub mod SameContents
+pub mod CapLaws
+pub mod EmptyBins
 pub mod TidyLaws
 pub mod WrittenUnits
 pub mod BinTotals
 pub mod JoinedBins
 pub mod JoinSteps
+pub mod SourceSteps
+pub mod OneCap

@@ -10,7 +10,7 @@ use Rattle.std.proofs.lemmas.Bool.{true≢false, false≢true, cond_both, cond-t
 use Rattle.std.proofs.lemmas.List.Elements.{All-cons, All-head, All-tail, All-nil, All-from_recursion, recursion_from_All}
 use Rattle.std.proofs.lemmas.List.Sums.{sum_by-cons}
 use Rattle.std.proofs.lemmas.List.Sorted.{ranks_by, sorted_far}
-use Rattle.packing_laws.specs.Tidying.{put_last, merged}
+use Rattle.packing_laws.specs.inner.Tidying.{put_last, merged}
 
 pub equal_from : (a : Ordering) → is_eq a ≡ true → a ≡ Equal
 equal_from Less h = absurd (false≢true h)

@@ -14,11 +14,12 @@ use Rattle.packing_laws.specs.Instances.{InstanceValue, IsInstance, IsAmong, typ
 use Rattle.packing_laws.specs.Packings.{Content, Exists, Fits, used_of, cost_at, cost_of, count_of_item}
 use Rattle.packing_laws.specs.Printed.{bins_of, IsWrittenPacking, IsTidyBin, form_cmp}
 use Rattle.packing_laws.specs.Floors.{least_of, single_costs, single_of, HasSingle, HasOneUnitEach}
-use Rattle.packing_laws.specs.Choices.{IsCheapest}
+use Rattle.packing_laws.specs.inner.Choices.{IsCheapest}
 use Rattle.packing_laws.proofs.Sums.{All-first, All-others, sum_by-flat_map}
 use Rattle.packing_laws.proofs.WrittenSums.{sum_by-bins_of, cost_of-bins_of}
 use Rattle.packing_laws.proofs.MaterialLaw.{cost_at-type}
 use Rattle.packing_laws.proofs.PackedItems.{vector_fits-at}
+use Rattle.packing_laws.proofs.CapLaws.{caps-unit}
 
 -- a bin of a type without limit, with one unit in it
 pub record IsUnitBin (I : InstanceValue) (b : Bin) : Type 0 where
@@ -65,6 +66,7 @@ unit-fits I i c times inside among cheapest =
       bin_type = choice.among;
       exists = All-one (Exists I) n there;
       weight = λ d dim. let fit : get_or v (d - 1) 0 ≤ get_or t.cap (d - 1) 0 = vector_fits-at v t.cap (d - 1) (omega arith) choice.of_type.fits in omega arith;
+      caps = caps-unit I i c.form inside;
     }
 
 pub unit_bin-is : (I : InstanceValue) (i : ℕ) (c : Choice) (times : ℕ) → IsInstance I → IsAmong i (length I.items) → IsCheapest I (item_at I i) c → 0 < times → IsUnitBin I (unit_bin c i times)

@@ -10,7 +10,7 @@ use Rattle.packing_laws.specs.declared.single.Choice.{Choice}
 use Rattle.packing_laws.specs.Instances.{InstanceValue, IsInstance, type_at, item_at}
 use Rattle.packing_laws.specs.Printed.{bins_of}
 use Rattle.packing_laws.specs.Floors.{least_of, vector_fits, item_fits, single_costs, HasSingle, SingleIsReached}
-use Rattle.packing_laws.specs.Choices.{IsCheapest}
+use Rattle.packing_laws.specs.inner.Choices.{IsCheapest}
 use Rattle.packing_laws.proofs.OneUnitBins.{AreApart, unit_bin, AreApart-start, AreApart-skipped, AreApart-more, AreApart-packing, AreApart-cost}
 
 -- some element passes the test, and its value is the least of these

@@ -1,7 +1,7 @@
 -- Sums over lists and over numbers from 1.
 use Rattle.std.proofs.Common.{zero, suc, ◌≡◌, ℕ, ◌+◌, ◌-◌, ◌*◌, ◌≤◌, ◌∙◌, inl, inr, List, [], ◌∷◌, length, take, true, false, cond, ◌==◌, sum_by, All, refl, sym, ap, arith, get_or, add-one}
 use Rattle.std.specs.List.{flat_map}
-use Rattle.std.proofs.lemmas.Bool.{ne_eqb, eq-eqb, cases_eq}
+use Rattle.std.proofs.lemmas.Bool.{ne_eqb, eq-eqb, cases_eq, cond-true}
 use Rattle.std.proofs.lemmas.List.Sums.{sum_by-cons, sum_by-append, sum_by_more}
 
 -- the first of a list on which something holds throughout, and the others
@@ -71,4 +71,16 @@ sum_to-one j k (suc n) f = elim (cases_eq j (suc n)) [
       let others : sum_to (λ i. cond (j == i) k 0 * f i) n ≤ k * f j = sum_to-one j k n f in
       let last : (j == suc n) ≡ false = ne_eqb j (suc n) other in
       rw last (omega arith)
+]
+
+-- a sum with such a term
+pub sum_to-term : (j k n : ℕ) → 1 ≤ j → j ≤ n → k ≤ sum_to (λ i. cond (j == i) k 0) n
+sum_to-term j k zero low high = absurd (omega arith)
+sum_to-term j k (suc n) low high = elim (cases_eq j (suc n)) [
+  | inl same ↦
+      let last : ◌≡◌ {A = ℕ} (cond (j == suc n) k 0) k = cond-true (j == suc n) k 0 (eq-eqb j (suc n) same) in
+      omega arith
+  | inr other ↦
+      let before : k ≤ sum_to (λ i. cond (j == i) k 0) n = sum_to-term j k n low (omega arith) in
+      omega arith
 ]

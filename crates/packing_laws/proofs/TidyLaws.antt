@@ -14,8 +14,10 @@ use Rattle.packing_laws.proofs.Sums.{All-first, All-others, sum_by-flat_map, sum
 use Rattle.packing_laws.proofs.PackedItems.{positive_term}
 use Rattle.packing_laws.proofs.OneUnitBins.{All-bins_of}
 use Rattle.packing_laws.proofs.Rearranged.{IsAlike}
-use Rattle.packing_laws.proofs.TidyParts.{sum_by-filter}
+use Rattle.packing_laws.proofs.WrittenPackings.{limit-less}
+use Rattle.packing_laws.proofs.EmptyBins.{sum_by-filter-le, filled-demand}
 use Rattle.packing_laws.proofs.SameContents.{same-weight, same-item, same-units}
+use Rattle.packing_laws.proofs.CapLaws.{caps-same}
 
 -- a number that alike bins share
 sum_by-alike : (f : ℕ × Content → ℕ) → ((b c : ℕ × Content) → IsAlike b c → f b ≡ f c) → (P Q : Bins) → AreAlike P Q → sum_by f P ≡ sum_by f Q
@@ -34,14 +36,6 @@ All-alike A B C step [] (c ∷ Q) alike first second = absurd alike
 All-alike A B C step (b ∷ P) [] alike first second = absurd alike
 All-alike A B C step (b ∷ P) (c ∷ Q) alike first second =
     All-cons C c Q (step b c (alike.0, alike.1) (All-first A b P first) (All-first B c Q second)) (All-alike A B C step P Q alike.2 (All-others A b P first) (All-others B c Q second))
-
-sum_by-filter-le : {X : Type 0} (f : X → ℕ) (p : X → Bool) (xs : List X) → sum_by f (filter p xs) ≤ sum_by f xs
-sum_by-filter-le f p [] = omega arith
-sum_by-filter-le f p (x ∷ xs) =
-    let rest : sum_by f (filter p xs) ≤ sum_by f xs = sum_by-filter-le f p xs in
-    let whole : sum_by f (x ∷ xs) ≡ f x + sum_by f xs = sum_by-cons f x xs in
-    let kept : sum_by f (x ∷ filter p xs) ≡ f x + sum_by f (filter p xs) = sum_by-cons f x (filter p xs) in
-    cond_both (p x) (x ∷ filter p xs) (filter p xs) (λ l. sum_by f l ≤ sum_by f (x ∷ xs)) (λ _. omega arith) (λ _. omega arith)
 
 pub filter-whole : {X : Type 0} (p : X → Bool) (xs : List X) → All (λ x. p x ≡ true) xs → filter p xs ≡ xs
 filter-whole p [] all = refl
@@ -92,15 +86,8 @@ same-fits I t c d same positive fits = record {
         form = subst (λ (i : ℕ). IsAmong n.form (length (item_at I i).forms)) keys.0 (subst (λ (f : ℕ). IsAmong f (length (item_at I m.item).forms)) keys.1 there.form);
       };
   weight = λ k among. subst (λ (w : ℕ). w ≤ slice_index (type_at I t).cap (k - 1)) (same-weight I k c d same) (fits.weight k among);
+  caps = caps-same I c d same fits.caps;
 }
-
-limit-less : (limit : Option ℕ) (m n : ℕ) → m ≤ n → IfSome limit (λ q. n ≤ q) → IfSome limit (λ q. m ≤ q)
-limit-less None m n less within = tt
-limit-less (Some q) m n less within = omega (arith, within)
-
-cond-below : (b : Bool) (m : ℕ) → cond b m 0 ≤ m
-cond-below true m = omega arith
-cond-below false m = omega arith
 
 module _ (old new : List Bin) (tidied : IsTidied old new) where
   -- a number that alike bins share, added up
@@ -131,12 +118,8 @@ module _ (old new : List Bin) (tidied : IsTidied old new) where
       let content : ℕ × Content → Content = λ b. b.1 in
       sum_by-flat_map of_item content (bins_of new)
       ∙ total (λ b. count_of_item i b.1) (λ b c alike. same-item i b.1 c.1 alike.1)
-      ∙ sum_by-filter (λ b. count_of_item i b.1) (λ b. nat_lt 0 (units_in b.1)) (bins_of old)
-      (λ b none.
-      let some : units_in b.1 ≤ 0 = ltb-false 0 (units_in b.1) none in
-      let less : count_of_item i b.1 ≤ units_in b.1 = sum_by-le-sum_by of_item (λ (m : Count). m.count) b.1 (λ k d within. cond-below ((get_or b.1 k d).item == i) (get_or b.1 k d).count) in
-      omega arith)
-      ∙ sym (sum_by-flat_map of_item content (bins_of old))
+      ∙ sym (sum_by-flat_map of_item content (filled_bins (bins_of old)))
+      ∙ filled-demand i (bins_of old)
 
   pub tidied-packing : (I : InstanceValue) → IsWrittenPacking I old → IsWrittenPacking I new
   tidied-packing I written =

@@ -9,11 +9,12 @@ use Rattle.std.specs.declared.cmp.Ordering.{Ordering}
 use Rattle.std.specs.declared.cmp.Ordering.TheVariants.{Less, Equal, Greater}
 use Rattle.std.proofs.lemmas.Cmp.{ranked, by_ranked, nat_cmp_total, on_total, then_total, lists_total}
 use Rattle.std.proofs.lemmas.List.{get_or-map, length-map}
+use Rattle.arc_num.proofs.Orders.{then_equal, number_equal, list_equal}
 use Rattle.packing_laws.specs.declared.packings.Count.{Count}
 use Rattle.packing_laws.specs.declared.packings.Bin.{Bin}
 use Rattle.packing_laws.specs.declared.tidying.Line.{Line}
 use Rattle.packing_laws.specs.Printed.{form_cmp, count_cmp, bin_cmp}
-use Rattle.packing_laws.specs.Tidying.{bin_of}
+use Rattle.packing_laws.specs.inner.Tidying.{bin_of}
 use Rattle.packing_laws.proofs.Merging.{pairs_from_sorted}
 
 pub form_total : IsTotalOrder form_cmp
@@ -32,18 +33,6 @@ line_cmp x y = ordering_then (nat_cmp x.bin_type y.bin_type) (ordering_then (sli
 pub line_total : IsTotalOrder line_cmp
 line_total = then_total (on_total (λ (x : Line). x.bin_type) nat_cmp_total) (then_total (on_total (λ (x : Line). x.counts.items) (lists_total count_total)) (on_total (λ (x : Line). x.times) nat_cmp_total))
 
-pub then_equal : (o p : Ordering) → ordering_then o p ≡ Equal → (o ≡ Equal) × (p ≡ Equal)
-then_equal Less p h = absurd (let bad : Less ≡ Equal = h in cc)
-then_equal Equal p h = (refl, h)
-then_equal Greater p h = absurd (let bad : Greater ≡ Equal = h in cc)
-
-pub number_equal : (x y : ℕ) → nat_cmp x y ≡ Equal → x ≡ y
-number_equal x y h =
-    by_ranked (x < y) (x ≡ y) (y < x) (nat_cmp x y) (ranked x y (nat_cmp x y) refl)
-    (λ is lt. absurd (let bad : Less ≡ Equal = sym is ∙ h in cc))
-    (λ is same. same)
-    (λ is gt. absurd (let bad : Greater ≡ Equal = sym is ∙ h in cc))
-
 count_equal : (m n : Count) → count_cmp m n ≡ Equal → m ≡ n
 count_equal m n h =
     let by_item = then_equal (nat_cmp m.item n.item) (ordering_then (nat_cmp m.form n.form) (nat_cmp m.count n.count)) h in
@@ -54,14 +43,7 @@ count_equal m n h =
     λ i. record { item = item i; form = form i; count = count i }
 
 counts_equal : (xs ys : List Count) → slice_cmp count_cmp xs ys ≡ Equal → xs ≡ ys
-counts_equal [] [] h = refl
-counts_equal [] (y ∷ ys) h = absurd (let bad : Less ≡ Equal = h in cc)
-counts_equal (x ∷ xs) [] h = absurd (let bad : Greater ≡ Equal = h in cc)
-counts_equal (x ∷ xs) (y ∷ ys) h =
-    let parts = then_equal (count_cmp x y) (slice_cmp count_cmp xs ys) h in
-    let first : x ≡ y = count_equal x y parts.0 in
-    let rest : xs ≡ ys = counts_equal xs ys parts.1 in
-    λ i. first i ∷ rest i
+counts_equal = list_equal count_cmp count_equal
 
 -- counts of one form
 pub form_equal : (m n : Count) → form_cmp m n ≡ Equal → (m.item ≡ n.item) × (m.form ≡ n.form)

@@ -12,8 +12,8 @@ use Rattle.packing_laws.specs.declared.packings.Count.{Count}
 use Rattle.packing_laws.specs.declared.packings.Bin.{Bin}
 use Rattle.packing_laws.specs.declared.tidying.Line.{Line}
 use Rattle.packing_laws.specs.Packings.{Content, Bins}
-use Rattle.packing_laws.specs.Printed.{bins_of, filled_bins, units_in, is_filled, form_cmp, count_cmp, bin_cmp, SameContent, AreAlike, IsTidyContent, IsTidyBin, IsTidied}
-use Rattle.packing_laws.specs.Tidying.{merged, joined_count, joined_bin, bin_of}
+use Rattle.packing_laws.specs.Printed.{bins_of, filled_bins, units_in, holds_units, form_cmp, count_cmp, bin_cmp, SameContent, AreAlike, IsTidyContent, IsTidyBin, IsTidied}
+use Rattle.packing_laws.specs.inner.Tidying.{merged, joined_count, joined_bin, bin_of}
 use Rattle.packing_laws.proofs.Merging.{sum_by-merged, flat_map-merged, All-merged, strict-merged}
 use Rattle.packing_laws.proofs.TidyOrders.{form_total, bin_total, line_cmp, form_equal, bin_equal, counts_rise, lines_rise}
 use Rattle.packing_laws.proofs.Rearranged.{flat_map-IsPermutation, AreAlike-append, AreAlike-replicate, AreAlike-rearranged}
@@ -112,28 +112,28 @@ filled_bins-push bins b l last =
 pub record AreLines (bins : List Bin) (lines : List Line) : Type 0 where
   pub tidy : All IsTidyBin (map bin_of lines)
   pub alike : AreAlike (filled_bins (bins_of bins)) (bins_of (map bin_of lines))
-  pub times : sum_by (λ x. x.times) lines ≡ sum_by (λ b. cond (is_filled b) b.times 0) bins
+  pub times : sum_by (λ x. x.times) lines ≡ sum_by (λ b. cond (holds_units b) b.times 0) bins
 
 -- a bin of which nothing is printed
 pub AreLines-skipped : (bins : List Bin) (b : Bin) (lines : List Line) → (b.times ≡ 0) ⊎ (units_in b.counts ≡ 0) → AreLines bins lines → AreLines (bins ++ b ∷ []) lines
 AreLines-skipped bins b lines nothing all =
     let pair : ℕ × Content = (b.bin_type, b.counts) in
-    let push : sum_by (λ b. cond (is_filled b) b.times 0) (bins ++ b ∷ []) ≡ sum_by (λ b. cond (is_filled b) b.times 0) bins + cond (is_filled b) b.times 0 = sum_by_push (λ b. cond (is_filled b) b.times 0) bins b in
+    let push : sum_by (λ b. cond (holds_units b) b.times 0) (bins ++ b ∷ []) ≡ sum_by (λ b. cond (holds_units b) b.times 0) bins + cond (holds_units b) b.times 0 = sum_by_push (λ b. cond (holds_units b) b.times 0) bins b in
     let none : filled_bins (replicate b.times pair) ≡ [] =
     ⊎_elim
     (λ unused. ap (λ (n : ℕ). filled_bins (replicate n pair)) unused)
     (λ empty. filter-replicate_false (λ (c : ℕ × Content). nat_lt 0 (units_in c.1)) b.times pair (le-ltb 0 (units_in b.counts) (omega arith)))
     nothing in
-    let free : ◌≡◌ {A = ℕ} (cond (is_filled b) b.times 0) 0 =
+    let free : ◌≡◌ {A = ℕ} (cond (holds_units b) b.times 0) 0 =
     ⊎_elim
-    (λ unused. cond-nothing (is_filled b) b.times (omega arith))
-    (λ empty. cond-false (is_filled b) b.times 0 (le-ltb 0 (units_in b.counts) (omega arith)))
+    (λ unused. cond-nothing (holds_units b) b.times (omega arith))
+    (λ empty. cond-false (holds_units b) b.times 0 (le-ltb 0 (units_in b.counts) (omega arith)))
     nothing in
     let same : filled_bins (bins_of (bins ++ b ∷ [])) ≡ filled_bins (bins_of bins) = filled_bins-push bins b [] none ∙ append-nil (filled_bins (bins_of bins)) in
     record {
       tidy = all.tidy;
       alike = subst (λ (P : Bins). AreAlike P (bins_of (map bin_of lines))) (sym same) all.alike;
-      times = let before : sum_by (λ x. x.times) lines ≡ sum_by (λ b. cond (is_filled b) b.times 0) bins = all.times in omega arith;
+      times = let before : sum_by (λ x. x.times) lines ≡ sum_by (λ b. cond (holds_units b) b.times 0) bins = all.times in omega arith;
     }
 
 -- a content with a tidy count has a unit
@@ -159,9 +159,9 @@ AreLines-push bins b lines x line all =
     let pair : ℕ × Content = (b.bin_type, b.counts) in
     let new : ℕ × Content = (x.bin_type, x.counts.items) in
     let positive : 0 < units_in x.counts.items = units-positive x.counts.items line.tidy.positive line.some in
-    let filled : is_filled b ≡ true = lt-ltb 0 (units_in b.counts) (let e : units_in x.counts.items ≡ units_in b.counts = line.units in omega arith) in
-    let push : sum_by (λ b. cond (is_filled b) b.times 0) (bins ++ b ∷ []) ≡ sum_by (λ b. cond (is_filled b) b.times 0) bins + cond (is_filled b) b.times 0 = sum_by_push (λ b. cond (is_filled b) b.times 0) bins b in
-    let paid : cond (is_filled b) b.times 0 ≡ b.times = cond-true (is_filled b) b.times 0 filled in
+    let filled : holds_units b ≡ true = lt-ltb 0 (units_in b.counts) (let e : units_in x.counts.items ≡ units_in b.counts = line.units in omega arith) in
+    let push : sum_by (λ b. cond (holds_units b) b.times 0) (bins ++ b ∷ []) ≡ sum_by (λ b. cond (holds_units b) b.times 0) bins + cond (holds_units b) b.times 0 = sum_by_push (λ b. cond (holds_units b) b.times 0) bins b in
+    let paid : cond (holds_units b) b.times 0 ≡ b.times = cond-true (holds_units b) b.times 0 filled in
     let more : sum_by (λ (y : Line). y.times) (lines ++ x ∷ []) ≡ sum_by (λ (y : Line). y.times) lines + x.times = sum_by_push (λ (y : Line). y.times) lines x in
     let mapped : map bin_of (lines ++ x ∷ []) ≡ map bin_of lines ++ bin_of x ∷ [] = map_push bin_of lines x in
     let old_bins : filled_bins (bins_of (bins ++ b ∷ [])) ≡ filled_bins (bins_of bins) ++ replicate b.times pair = filled_bins-push bins b (replicate b.times pair) (filter-replicate_true (λ (c : ℕ × Content). nat_lt 0 (units_in c.1)) b.times pair filled) in
@@ -173,7 +173,7 @@ AreLines-push bins b lines x line all =
           subst (λ (P : Bins). AreAlike P (bins_of (map bin_of (lines ++ x ∷ [])))) (sym old_bins)
           (subst (λ (Q : Bins). AreAlike (filled_bins (bins_of bins) ++ replicate b.times pair) Q) (sym new_bins)
           (AreAlike-append (filled_bins (bins_of bins)) (bins_of (map bin_of lines)) (replicate b.times pair) (replicate b.times new) all.alike (AreAlike-replicate b.times pair new (sym line.bin_type, line.same))));
-      times = let before : sum_by (λ (y : Line). y.times) lines ≡ sum_by (λ b. cond (is_filled b) b.times 0) bins = all.times in let e : x.times ≡ b.times = line.times in omega arith;
+      times = let before : sum_by (λ (y : Line). y.times) lines ≡ sum_by (λ b. cond (holds_units b) b.times 0) bins = all.times in let e : x.times ≡ b.times = line.times in omega arith;
     }
 
 -- lines in order, merged, are the printed form

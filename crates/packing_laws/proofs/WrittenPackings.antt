@@ -1,7 +1,8 @@
 -- What is asked of the bins that are meant, by the bins as they are written.
-use Rattle.std.proofs.Common.{◌≡◌, ℕ, ◌+◌, ◌-◌, ◌*◌, ◌<◌, ◌≤◌, ◌∙◌, List, [], length, take, cond, ◌==◌, None, IfSome, All, sum_by, ap, arith, get_or}
+use Rattle.std.proofs.Common.{◌≡◌, ℕ, ◌+◌, ◌-◌, ◌*◌, ◌<◌, ◌≤◌, ◌∙◌, List, [], length, take, cond, ◌==◌, Option, None, IfSome, All, sum_by, ap, arith, get_or}
 use Rattle.std.proofs.lemmas.List.{get_or_default}
 use Rattle.std.proofs.lemmas.List.Sums.{sum_by_more_le}
+use Rattle.std.proofs.lemmas.Option.{IfSome_then}
 use Rattle.packing_laws.specs.declared.instances.BinType.{BinType}
 use Rattle.packing_laws.specs.declared.packings.Count.{Count}
 use Rattle.packing_laws.specs.declared.packings.Bin.{Bin}
@@ -27,6 +28,10 @@ passed f bins k left whole b within here sofar much exact =
     let more : sum_by f (take k bins) + f (get_or bins k b) ≤ sum_by f bins = sum_by_more_le f bins k b within in
     let same : f b ≡ f (get_or bins k b) = ap f here in
     omega arith
+
+-- a number within a limit, and one that is no greater
+pub limit-less : (limit : Option ℕ) (m n : ℕ) → m ≤ n → IfSome limit (λ q. n ≤ q) → IfSome limit (λ q. m ≤ q)
+limit-less limit m n less within = IfSome_then limit within (λ q most. omega (arith, less, most))
 
 -- the fits, the limits and the demands are all that is asked
 pub IsWrittenPacking-made : (I : InstanceValue) (bins : List Bin) → All (λ b. Fits I b.bin_type b.counts) bins → ((t : ℕ) → IsAmong t (length I.types) → IfSome (type_at I t).limit (λ q. used_of t (bins_of bins) ≤ q)) → ((i : ℕ) → IsAmong i (length I.items) → count_of_item i (all_of (bins_of bins)) ≡ (item_at I i).demand) → IsWrittenPacking I bins

@@ -4,30 +4,18 @@ use Rattle.std.proofs.lemmas.Bool.{cases_Bool, cases_eq, cond-true, cond-false, 
 use Rattle.std.proofs.lemmas.List.Elements.{All-append, All-nil}
 use Rattle.std.proofs.lemmas.List.Sums.{sum_by-cons, sum_by-le, get_or-le-sum_by}
 use Rattle.std.proofs.Math.Nat.{mul-le-mul_left, mul-le-mul_right}
-use Rattle.arc_num.specs.declared.TheConstants.{MAX_ITEMS, MAX_DEMAND}
+use Rattle.arc_num.specs.declared.TheConstants.{MAX_ITEMS, MAX_DEMAND, MAX_UNITS}
 use Rattle.packing_laws.specs.declared.instances.Item.{Item}
 use Rattle.packing_laws.specs.declared.packings.Count.{Count}
 use Rattle.packing_laws.specs.declared.packings.Bin.{Bin}
-use Rattle.packing_laws.specs.Instances.{InstanceValue, IsInstance, IsAmong, item_at}
+use Rattle.packing_laws.specs.Instances.{InstanceValue, IsInstance, IsAmong, item_at, units_of}
 use Rattle.packing_laws.specs.Packings.{Content, Bins, Fits, all_of, count_of_item}
-use Rattle.packing_laws.specs.Printed.{bins_of, units_in, is_filled, IsWrittenPacking, PackingsFit}
-use Rattle.packing_laws.proofs.Sums.{All-first, All-others, sum_by-flat_map, sum_by-le-sum_by, sum_to, sum_to-add, sum_to-le, sum_by-by_number}
+use Rattle.packing_laws.specs.Printed.{bins_of, units_in, holds_units, IsWrittenPacking, PackingsFit}
+use Rattle.packing_laws.proofs.Sums.{All-first, All-others, sum_by-flat_map, sum_by-le-sum_by, sum_to, sum_to-add, sum_to-le, sum_to-term, sum_by-by_number}
 use Rattle.packing_laws.proofs.WrittenSums.{sum_by-bins_of}
 
--- a sum with such a term
-sum_to-term : (j k n : ℕ) → 1 ≤ j → j ≤ n → k ≤ sum_to (λ i. cond (j == i) k 0) n
-sum_to-term j k zero low high = absurd (omega arith)
-sum_to-term j k (suc n) low high = elim (cases_eq j (suc n)) [
-  | inl same ↦
-      let last : ◌≡◌ {A = ℕ} (cond (j == suc n) k 0) k = cond-true (j == suc n) k 0 (eq-eqb j (suc n) same) in
-      omega arith
-  | inr other ↦
-      let before : k ≤ sum_to (λ i. cond (j == i) k 0) n = sum_to-term j k n low (omega arith) in
-      omega arith
-]
-
 -- the units of a content are those of its items
-units-by_item : (n : ℕ) (c : Content) → All (λ m. IsAmong m.item n) c → units_in c ≤ sum_to (λ i. count_of_item i c) n
+pub units-by_item : (n : ℕ) (c : Content) → All (λ m. IsAmong m.item n) c → units_in c ≤ sum_to (λ i. count_of_item i c) n
 units-by_item n [] among = omega arith
 units-by_item n (m ∷ c) among =
     let here : IsAmong m.item n = All-first (λ (x : Count). IsAmong x.item n) m c among in
@@ -41,15 +29,25 @@ units-by_item n (m ∷ c) among =
     omega arith
 
 -- what is in the bins exists
-all-exist : (I : InstanceValue) (P : Bins) → All (λ b. Fits I b.0 b.1) P → All (λ m. IsAmong m.item (length I.items)) (all_of P)
+pub all-exist : (I : InstanceValue) (P : Bins) → All (λ b. Fits I b.0 b.1) P → All (λ m. IsAmong m.item (length I.items)) (all_of P)
 all-exist I [] fits = All-nil (λ (m : Count). IsAmong m.item (length I.items))
 all-exist I (b ∷ P) fits =
     All-append (λ (m : Count). IsAmong m.item (length I.items)) b.1 (all_of P)
     (λ k d within. ((All-first (λ (c : ℕ × Content). Fits I c.0 c.1) b P fits).exists k d within).item)
     (all-exist I P (All-others (λ (c : ℕ × Content). Fits I c.0 c.1) b P fits))
 
--- the bins hold at most 1,000,000,000 units
-pub written-units : (I : InstanceValue) (bins : List Bin) → IsInstance I → IsWrittenPacking I bins → sum_by (λ b. b.times * units_in b.counts) bins ≤ 1000000000
+-- an instance asks for at most MAX_UNITS units
+pub units-most : (I : InstanceValue) → IsInstance I → units_of I ≤ MAX_UNITS
+units-most I inside =
+    let n : ℕ = length I.items in
+    let most : units_of I ≤ n * MAX_DEMAND = sum_by-le (λ (x : Item). x.demand) MAX_DEMAND I.items (λ k d within. (inside.items k d within).demand) in
+    let few : n ≤ MAX_ITEMS = inside.item_count in
+    let bound : n * MAX_DEMAND ≤ MAX_ITEMS * MAX_DEMAND = mul-le-mul_right MAX_DEMAND few in
+    let limit : MAX_ITEMS * MAX_DEMAND ≤ MAX_UNITS = omega arith in
+    omega arith
+
+-- the bins hold at most as many units as an instance asks for
+pub written-units : (I : InstanceValue) (bins : List Bin) → IsInstance I → IsWrittenPacking I bins → sum_by (λ b. b.times * units_in b.counts) bins ≤ MAX_UNITS
 written-units I bins inside written =
     let P : Bins = bins_of bins in
     let n : ℕ = length I.items in
@@ -60,11 +58,8 @@ written-units I bins inside written =
     let met : sum_to (λ i. count_of_item i (all_of P)) n ≤ sum_to demand n =
     sum_to-le (λ i. count_of_item i (all_of P)) demand n (λ i low high. let e : count_of_item i (all_of P) ≡ demand i = written.packing.demands i (low, high) in omega arith) in
     let asked : sum_by (λ (x : Item). x.demand) (take n I.items) ≡ sum_to demand n = sum_by-by_number (λ (x : Item). x.demand) I.items (record { demand = 0; forms = [] }) n (omega arith) in
-    let whole : sum_by (λ (x : Item). x.demand) (take n I.items) ≡ sum_by (λ (x : Item). x.demand) I.items = ap (λ (l : List Item). sum_by (λ (x : Item). x.demand) l) (take_all n I.items (omega arith)) in
-    let most : sum_by (λ (x : Item). x.demand) I.items ≤ n * MAX_DEMAND = sum_by-le (λ (x : Item). x.demand) MAX_DEMAND I.items (λ k d within. (inside.items k d within).demand) in
-    let few : n ≤ MAX_ITEMS = inside.item_count in
-    let bound : n * MAX_DEMAND ≤ MAX_ITEMS * MAX_DEMAND = mul-le-mul_right MAX_DEMAND few in
-    let limit : MAX_ITEMS * MAX_DEMAND ≤ 1000000000 = omega arith in
+    let whole : sum_by (λ (x : Item). x.demand) (take n I.items) ≡ units_of I = ap (λ (l : List Item). sum_by (λ (x : Item). x.demand) l) (take_all n I.items (omega arith)) in
+    let most : units_of I ≤ MAX_UNITS = units-most I inside in
     omega arith
 
 cond-le-mul : (t u : ℕ) → cond (nat_lt 0 u) t 0 ≤ t * u
@@ -80,8 +75,8 @@ cond-le-mul t u = elim (cases_Bool (nat_lt 0 u)) [
 pub packings_fit : PackingsFit
 packings_fit I bins inside written =
     let units : Bin → ℕ = λ b. b.times * units_in b.counts in
-    let all : sum_by units bins ≤ 1000000000 = written-units I bins inside written in
-    let filled : sum_by (λ b. cond (is_filled b) b.times 0) bins ≤ sum_by units bins = sum_by-le-sum_by (λ b. cond (is_filled b) b.times 0) units bins (λ k d within. cond-le-mul (get_or bins k d).times (units_in (get_or bins k d).counts)) in
+    let all : sum_by units bins ≤ MAX_UNITS = written-units I bins inside written in
+    let filled : sum_by (λ b. cond (holds_units b) b.times 0) bins ≤ sum_by units bins = sum_by-le-sum_by (λ b. cond (holds_units b) b.times 0) units bins (λ k d within. cond-le-mul (get_or bins k d).times (units_in (get_or bins k d).counts)) in
     record {
       times = omega arith;
       counts = λ k d within used.

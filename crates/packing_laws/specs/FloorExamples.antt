@@ -7,35 +7,35 @@ use Rattle.packing_laws.specs.Floors.{material_of, floor_in, single_of, single_c
 
 -- three units of 6 in bins of 10
 abbrev pub three_units_of_six : InstanceValue
-three_units_of_six = record { dims = 1; types = record { cap = 10 ∷ []; cost = 1; limit = None } ∷ []; items = record { demand = 3; forms = (6 ∷ []) ∷ [] } ∷ [] }
+three_units_of_six = record { dims = 1; types = record { cap = 10 ∷ []; cost = 1; limit = None } ∷ []; items = record { demand = 3; forms = (6 ∷ []) ∷ [] } ∷ []; caps = [] }
 
 -- three units of 1 in bins of 2 that cost 3
 abbrev pub three_halves : InstanceValue
-three_halves = record { dims = 1; types = record { cap = 2 ∷ []; cost = 3; limit = None } ∷ []; items = record { demand = 3; forms = (1 ∷ []) ∷ [] } ∷ [] }
+three_halves = record { dims = 1; types = record { cap = 2 ∷ []; cost = 3; limit = None } ∷ []; items = record { demand = 3; forms = (1 ∷ []) ∷ [] } ∷ []; caps = [] }
 
 -- a unit of 11 does not fit a bin of 10
 abbrev pub one_without_place : InstanceValue
-one_without_place = record { dims = 1; types = record { cap = 10 ∷ []; cost = 1; limit = None } ∷ []; items = record { demand = 1; forms = (11 ∷ []) ∷ [] } ∷ [] }
+one_without_place = record { dims = 1; types = record { cap = 10 ∷ []; cost = 1; limit = None } ∷ []; items = record { demand = 1; forms = (11 ∷ []) ∷ [] } ∷ []; caps = [] }
 
 -- two units that may lie along either dimension
 abbrev pub two_turned_units : InstanceValue
-two_turned_units = record { dims = 2; types = record { cap = 3 ∷ 3 ∷ []; cost = 1; limit = None } ∷ []; items = record { demand = 2; forms = (3 ∷ 0 ∷ []) ∷ (0 ∷ 3 ∷ []) ∷ [] } ∷ [] }
+two_turned_units = record { dims = 2; types = record { cap = 3 ∷ 3 ∷ []; cost = 1; limit = None } ∷ []; items = record { demand = 2; forms = (3 ∷ 0 ∷ []) ∷ (0 ∷ 3 ∷ []) ∷ [] } ∷ []; caps = [] }
 
 -- two units of 6; of the cheaper type there is one bin
 abbrev pub one_cheap_bin : InstanceValue
-one_cheap_bin = record { dims = 1; types = record { cap = 10 ∷ []; cost = 1; limit = Some 1 } ∷ record { cap = 10 ∷ []; cost = 5; limit = None } ∷ []; items = record { demand = 2; forms = (6 ∷ []) ∷ [] } ∷ [] }
+one_cheap_bin = record { dims = 1; types = record { cap = 10 ∷ []; cost = 1; limit = Some 1 } ∷ record { cap = 10 ∷ []; cost = 5; limit = None } ∷ []; items = record { demand = 2; forms = (6 ∷ []) ∷ [] } ∷ []; caps = [] }
 
 -- two units of 6, and one bin
 abbrev pub one_bin_alone : InstanceValue
-one_bin_alone = record { dims = 1; types = record { cap = 10 ∷ []; cost = 1; limit = Some 1 } ∷ []; items = record { demand = 2; forms = (6 ∷ []) ∷ [] } ∷ [] }
+one_bin_alone = record { dims = 1; types = record { cap = 10 ∷ []; cost = 1; limit = Some 1 } ∷ []; items = record { demand = 2; forms = (6 ∷ []) ∷ [] } ∷ []; caps = [] }
 
 -- two dimensions, of which the last has the greater floor
 abbrev pub last_is_greatest : InstanceValue
-last_is_greatest = record { dims = 2; types = record { cap = 10 ∷ 10 ∷ []; cost = 1; limit = None } ∷ record { cap = 10 ∷ 20 ∷ []; cost = 1; limit = None } ∷ []; items = record { demand = 10; forms = (1 ∷ 9 ∷ []) ∷ [] } ∷ [] }
+last_is_greatest = record { dims = 2; types = record { cap = 10 ∷ 10 ∷ []; cost = 1; limit = None } ∷ record { cap = 10 ∷ 20 ∷ []; cost = 1; limit = None } ∷ []; items = record { demand = 10; forms = (1 ∷ 9 ∷ []) ∷ [] } ∷ []; caps = [] }
 
 -- a free type with room
 abbrev pub one_free_type : InstanceValue
-one_free_type = record { dims = 1; types = record { cap = 10 ∷ []; cost = 1; limit = None } ∷ record { cap = 10 ∷ []; cost = 0; limit = Some 1 } ∷ []; items = record { demand = 3; forms = (6 ∷ []) ∷ [] } ∷ [] }
+one_free_type = record { dims = 1; types = record { cap = 10 ∷ []; cost = 1; limit = None } ∷ record { cap = 10 ∷ []; cost = 0; limit = Some 1 } ∷ []; items = record { demand = 3; forms = (6 ∷ []) ∷ [] } ∷ []; caps = [] }
 
 -- what the definitions say of them
 pub record FloorsComeOut : Type 0 where

@@ -99,3 +99,14 @@ pub record IsBestType (I : InstanceValue) (d t : ℕ) : Type 0 where
 -- the floor in a dimension is the cost of what all units weigh there, in bins of a best type taken in parts
 abbrev pub BestTypeGivesFloor : Type 0
 BestTypeGivesFloor = (I : InstanceValue) (d t : ℕ) → IsBestType I d t → floor_in I d ≡ div_up (material_in I d * (type_at I t).cost) (room_in I d t)
+
+-- d is the first dimension of greatest floor
+pub record IsGreatestFloor (I : InstanceValue) (d : ℕ) : Type 0 where
+  pub dim : IsAmong d I.dims
+  pub greatest : floor_in I d ≡ material_of I
+  pub first : (e : ℕ) → IsAmong e (d - 1) → floor_in I e < floor_in I d
+
+-- in dimension d type t is the first best type
+pub record IsFirstBestType (I : InstanceValue) (d t : ℕ) : Type 0 where
+  pub best : IsBestType I d t
+  pub first : (u : ℕ) → IsAmong u (t - 1) → IsBestType I d u → ⊥

@@ -1,14 +1,19 @@
 -- What an instance is.
-use Rattle.std.specs.Prelude.{◌≡◌, ℕ, ◌-◌, ◌<◌, ◌≤◌, List, [], length, Option, Some, None, All, Any, sum_by, slice_index_or}
-use Rattle.arc_num.specs.declared.TheConstants.{MAX_DIMS, MAX_TYPES, MAX_ITEMS, MAX_FORMS, MAX_ALL_FORMS, MAX_VALUE, MAX_DEMAND}
+use Rattle.std.specs.Prelude.{◌≡◌, ℕ, ◌+◌, ◌-◌, ◌<◌, ◌≤◌, List, [], length, Option, Some, None, All, Any, sum_by, slice_index_or}
+use Rattle.std.specs.List.Sorted.{IsStrictlySortedBy}
+use Rattle.std.specs.Ordering.{nat_cmp}
+use Rattle.std.specs.declared.cmp.Ordering.{Ordering}
+use Rattle.arc_num.specs.declared.TheConstants.{MAX_DIMS, MAX_TYPES, MAX_ITEMS, MAX_FORMS, MAX_ALL_FORMS, MAX_VALUE, MAX_DEMAND, MAX_CAP}
 use Rattle.packing_laws.specs.declared.instances.BinType.{BinType}
 use Rattle.packing_laws.specs.declared.instances.Item.{Item}
+use Rattle.packing_laws.specs.declared.instances.ItemCap.{ItemCap}
 
--- an instance: how many dimensions, the types of bins and the items
+-- an instance: how many dimensions, the types of bins, the items, and the caps of items
 pub record InstanceValue : Type 0 where
   pub dims : ℕ
   pub types : List BinType
   pub items : List Item
+  pub caps : List ItemCap
 
 -- the number is at least 1 and at most n
 abbrev pub IsAmong : ℕ → ℕ → Type 0
@@ -57,7 +62,23 @@ pub record IsItem (n : ℕ) (x : Item) : Type 0 where
   pub form_count : IsAmong (length x.forms) MAX_FORMS
   pub forms : All (IsForm n) x.forms
 
--- all numbers are within the limits, all vectors have one number for each dimension, and no form is without weight
+-- the cap of one of n items: at least one unit in a bin
+pub record IsCap (n : ℕ) (k : ItemCap) : Type 0 where
+  pub item : IsAmong k.item n
+  pub count : IsAmong k.count MAX_CAP
+
+-- the order of caps: by item
+abbrev pub cap_cmp : ItemCap → ItemCap → Ordering
+cap_cmp j k = nat_cmp j.item k.item
+
+-- caps of n items in so many dimensions: dimensions and caps together are not too many, and no item has two
+pub record AreCaps (dims n : ℕ) (caps : List ItemCap) : Type 0 where
+  pub room : dims + length caps ≤ MAX_DIMS
+  pub each : All (IsCap n) caps
+  pub order : IsStrictlySortedBy cap_cmp caps
+
+-- all numbers are within the limits, all vectors have one number for each dimension, no form is without weight, and the
+-- caps are those of items that exist
 pub record IsInstance (I : InstanceValue) : Type 0 where
   pub dims : IsAmong I.dims MAX_DIMS
   pub type_count : IsAmong (length I.types) MAX_TYPES
@@ -65,3 +86,4 @@ pub record IsInstance (I : InstanceValue) : Type 0 where
   pub item_count : length I.items ≤ MAX_ITEMS
   pub items : All (IsItem I.dims) I.items
   pub form_count : sum_by (λ x. length x.forms) I.items ≤ MAX_ALL_FORMS
+  pub caps : AreCaps I.dims (length I.items) I.caps

@@ -1,10 +1,8 @@
 pub mod Instances
 pub mod Packings
 pub mod Printed
-pub mod Tidying
-pub mod Joining
 pub mod Floors
 pub mod FloorExamples
-pub mod Choices
 pub mod Places
 pub mod Layouts
+pub mod inner

@@ -25,11 +25,16 @@ pub record Exists (I : InstanceValue) (n : Count) : Type 0 where
   pub item : IsAmong n.item (length I.items)
   pub form : IsAmong n.form (length (item_at I n.item).forms)
 
--- the content fits a bin of type t: in no dimension does it weigh more than the capacity
+-- the content has no more of any item than the item's cap
+abbrev pub KeepsCaps : InstanceValue → Content → Type 0
+KeepsCaps I c = All (λ k. count_of_item k.item c ≤ k.count) I.caps
+
+-- the content fits a bin of type t: in no dimension does it weigh more than the capacity, and it keeps the caps
 pub record Fits (I : InstanceValue) (t : ℕ) (c : Content) : Type 0 where
   pub bin_type : IsAmong t (length I.types)
   pub exists : All (Exists I) c
   pub weight : (d : ℕ) → IsAmong d I.dims → weight_in I d c ≤ slice_index (type_at I t).cap (d - 1)
+  pub caps : KeepsCaps I c
 
 -- the content has no more of any item than is asked for
 abbrev pub IsWithin : InstanceValue → Content → Type 0

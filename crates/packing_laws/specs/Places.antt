@@ -1,6 +1,6 @@
 -- The places that a layout asks for, looked at in order over the list of all tokens. Each gives its value and the place
 -- behind it, or the first fault.
-use Rattle.std.specs.Prelude.{zero, suc, ◌≡◌, ℕ, ◌+◌, ◌&&◌, not, ◌==◌, nat_le, if◌then◌else◌, List, [], ◌∷◌, ◌++◌, Option, Some, None, Result, Ok, Err, MatchResult, ◌⊎◌, codes}
+use Rattle.std.specs.Prelude.{zero, suc, ◌≡◌, ℕ, ◌+◌, Bool, true, false, ◌&&◌, not, ◌==◌, nat_le, if◌then◌else◌, List, [], ◌∷◌, ◌++◌, Option, Some, None, Result, Ok, Err, MatchResult, ◌⊎◌, codes}
 use Rattle.std.specs.List.{list_all}
 use Rattle.std.specs.Str.{bytes_eq}
 use Rattle.arc_num.specs.Words.{tokens_of}
@@ -77,6 +77,15 @@ end_in count (t ∷ ts) = Err (Extra (count + 1))
 
 unfoldable pub end_at : Place → Result (Unit {0}) ReadFault
 end_at p = end_in p.count p.left
+
+-- whether the word `caps` follows, or else the end of the text: Extra at any other token
+abbrev pub caps_word_in : ℕ → List (List ℕ) → Result (Bool × Place) ReadFault
+caps_word_in count [] = Ok (false, record { count = count; left = [] })
+caps_word_in count (t ∷ ts) =
+    if bytes_eq t (codes "caps") then Ok (true, record { count = count + 1; left = ts }) else Err (Extra (count + 1))
+
+unfoldable pub caps_word : Place → Result (Bool × Place) ReadFault
+caps_word p = caps_word_in p.count p.left
 
 -- a call returned what is read, and stands at the place behind it, or it returned the fault
 abbrev pub Gives : {A : Type 0} → Result A ReadFault → Place → Result (A × Place) ReadFault → Type 0

@@ -1,5 +1,5 @@
 -- Packings as they are written down: bins, each with the number of times that it is used.
-use Rattle.std.specs.Prelude.{◌≡◌, ℕ, ◌^◌, ◌<◌, Bool, if◌then◌else◌, List, [], ◌∷◌, All, length, replicate, sum_by, filter, nat_lt}
+use Rattle.std.specs.Prelude.{◌≡◌, ℕ, ◌^◌, ◌<◌, ◌≤◌, Bool, if◌then◌else◌, List, [], ◌∷◌, All, length, replicate, sum_by, filter, nat_lt}
 use Rattle.std.specs.List.{flat_map}
 use Rattle.std.specs.List.Sorted.{IsStrictlySortedBy, IsPermutation}
 use Rattle.std.specs.Ordering.{nat_cmp, ordering_then}
@@ -8,7 +8,7 @@ use Rattle.std.specs.declared.cmp.Ordering.{Ordering}
 use Rattle.packing_laws.specs.declared.packings.Count.{Count}
 use Rattle.packing_laws.specs.declared.packings.Bin.{Bin}
 use Rattle.packing_laws.specs.Instances.{InstanceValue, IsInstance}
-use Rattle.packing_laws.specs.Packings.{Content, Bins, Fits, IsPacking, count_of_form}
+use Rattle.packing_laws.specs.Packings.{Content, Bins, Fits, IsPacking, cost_of, count_of_form}
 
 -- the bins that are meant: each as often as it is used
 abbrev pub bins_of : List Bin → Bins
@@ -56,12 +56,12 @@ abbrev pub units_in : Content → ℕ
 units_in c = sum_by (λ n. n.count) c
 
 -- the bin holds some unit
-abbrev pub is_filled : Bin → Bool
-is_filled b = nat_lt 0 (units_in b.counts)
+abbrev pub holds_units : Bin → Bool
+holds_units b = nat_lt 0 (units_in b.counts)
 
 -- the sums of the printed form fit: the times of the bins that hold some unit, and what is in each bin that is used
 pub record SumsFit (bins : List Bin) : Type 0 where
-  pub times : sum_by (λ b. if is_filled b then b.times else 0) bins < 2 ^ 32
+  pub times : sum_by (λ b. if holds_units b then b.times else 0) bins < 2 ^ 32
   pub counts : All (λ b. 0 < b.times → units_in b.counts < 2 ^ 32) bins
 
 -- the sums of every packing of an instance fit
@@ -85,3 +85,13 @@ pub record IsTidied (old new : List Bin) : Type 0 where
   pub order : Bins
   pub rearranged : IsPermutation (filled_bins (bins_of old)) order
   pub alike : AreAlike order (bins_of new)
+
+-- a packing of bins that each hold some unit, which costs no more than the other bins
+pub record IsLeanPacking (I : InstanceValue) (P Q : Bins) : Type 0 where
+  pub packing : IsPacking I Q
+  pub filled : All (λ b. 0 < units_in b.1) Q
+  pub cost : cost_of I Q ≤ cost_of I P
+
+-- a packing without its empty bins is a packing, and costs no more
+abbrev pub EmptyBinsCanGo : Type 0
+EmptyBinsCanGo = (I : InstanceValue) (P : Bins) → IsPacking I P → IsLeanPacking I P (filled_bins P)

@@ -3,7 +3,7 @@ ghost use Rattle.packing_laws.specs.Instances.{IsAmong, type_at, item_at, form_a
 ghost use Rattle.packing_laws.specs.Packings.{Exists, Fits, weight_in, count_of_item, all_of, used_of};
 ghost use Rattle.packing_laws.specs.Printed.{bins_of, IsWrittenPacking};
 
-use crate::instances::Instance;
+use crate::instances::{Instance, ItemCap};
 use crate::packings::{Bin, Count, Packing};
 use arc_num::MAX_VALUE;
 
@@ -16,7 +16,9 @@ pub fn fits(instance: &Instance, bin: &Bin) -> bool
     match instance.bin_type(bin.bin_type) {
         None => false,
         Some(bin_type) => {
-            all_exist(instance, counts) && is_light(instance, counts, bin_type.cap.as_slice())
+            all_exist(instance, counts)
+                && is_light(instance, counts, bin_type.cap.as_slice())
+                && keeps_caps(instance.caps(), counts)
         }
     }
 }
@@ -53,6 +55,18 @@ fn is_light(instance: &Instance, counts: &[Count], cap: &[u32]) -> bool
 {
     for d in 1..=instance.dims() {
         if weight(instance, d, counts) > u128::from(cap[d as usize - 1]) {
+            return false;
+        }
+    }
+    true
+}
+
+/// Whether no item stands in the counts more often than its cap.
+fn keeps_caps(caps: &[ItemCap], counts: &[Count]) -> bool
+    ensures { IsTrue result ↔ All (λ k. count_of_item k.item counts.now ≤ k.count) caps.now }
+{
+    for cap in caps {
+        if units(counts, cap.item) > u128::from(cap.count) {
             return false;
         }
     }
@@ -157,7 +171,7 @@ fn meets_demand(bins: &[Bin], i: u32, demand: u32) -> bool
 }
 
 /// How many units of an item are in the counts.
-fn units(counts: &[Count], i: u32) -> u128
+pub(crate) fn units(counts: &[Count], i: u32) -> u128
     ensures value { result ≡ count_of_item i counts.now }
     ensures small { result ≤ 2 ^ 95 }
 {

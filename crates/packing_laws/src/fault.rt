@@ -1,3 +1,4 @@
+use std::alloc::{AllocError, AllocFailed};
 use thiserror::Error;
 
 /// Why a text is not an instance: the first bad place, by the number of its token from 1, with its first cause.
@@ -24,4 +25,26 @@ pub enum ReadFault {
     /// Want of memory.
     #[error("out of memory")]
     Memory,
+}
+
+impl From<AllocError> for ReadFault {
+    ghost use Rattle.std.specs.Prelude.{◌≡◌};
+    ghost use Rattle.packing_laws.specs.declared.fault.ReadFault.TheVariants.{Memory};
+
+    ghost from_gives = { λ _ e. e ≡ Memory };
+
+    fn from(_e: AllocError) -> ReadFault {
+        ReadFault::Memory
+    }
+}
+
+impl<T: Drop> From<AllocFailed<T>> for ReadFault {
+    ghost use Rattle.std.specs.Prelude.{◌≡◌};
+    ghost use Rattle.packing_laws.specs.declared.fault.ReadFault.TheVariants.{Memory};
+
+    ghost from_gives = { λ _ e. e ≡ Memory };
+
+    fn from(_e: AllocFailed<T>) -> ReadFault {
+        ReadFault::Memory
+    }
 }

@@ -17,7 +17,7 @@ pub fn material_bound(instance: &Instance) -> u128
 }
 
 /// The floor in one dimension, by its number from 1.
-fn floor_in(instance: &Instance, d: u32) -> u128
+pub(crate) fn floor_in(instance: &Instance, d: u32) -> u128
     requires { IsAmong d instance.now.dims }
     ensures { result ≡ floor_in instance.now d }
 {

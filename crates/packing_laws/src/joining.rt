@@ -1,12 +1,12 @@
 ghost use Rattle.std.specs.Prelude.{◌≡◌, ◌+◌, ◌-◌, ◌^◌, ◌<◌, ◌≤◌, ◌↔◌, ◌∷◌, ◌++◌, ◌⊎◌, [], List, ℕ, All, IsTrue, IsErr, IsNone, IfSome, IfOk, OnOk, length, slice_index, slice_index_or};
 ghost use Rattle.packing_laws.specs.Instances.{IsAmong};
-ghost use Rattle.packing_laws.specs.Packings.{Exists, Fits, IsJoined, cost_of, weight_in};
+ghost use Rattle.packing_laws.specs.Packings.{Exists, Fits, IsJoined, cost_of, count_of_item, weight_in};
 ghost use Rattle.packing_laws.specs.Printed.{bins_of, units_in, IsWrittenPacking, IsTidy};
-ghost use Rattle.packing_laws.specs.Joining.{StayApart, AreApart, AreJoined, IsSharedType, IsPartner, IsMadeOf, IsHalved, IsStep};
+ghost use Rattle.packing_laws.specs.inner.Joining.{StayApart, AreApart, AreJoined, IsSharedType, IsPartner, IsMadeOf, IsHalved, IsStep};
 
-use crate::checks::weight;
+use crate::checks::{units, weight};
 use crate::costs::type_cost;
-use crate::instances::Instance;
+use crate::instances::{Instance, ItemCap};
 use crate::laws::packings_fit;
 use crate::packings::{Bin, Count, Counts, Packing};
 use crate::tidying::{tidy, tidy_counts};
@@ -226,13 +226,25 @@ fn fit_together(instance: &Instance, t: u32, first: &Bin, second: &Bin) -> bool
 {
     match instance.bin_type(t) {
         None => false,
-        Some(bin_type) => are_light(
-            instance,
-            first.counts.as_slice(),
-            second.counts.as_slice(),
-            bin_type.cap.as_slice(),
-        ),
+        Some(bin_type) => {
+            let first = first.counts.as_slice();
+            let second = second.counts.as_slice();
+            are_light(instance, first, second, bin_type.cap.as_slice())
+                && keep_caps(instance.caps(), first, second)
+        }
     }
+}
+
+/// Whether both together have no item more often than its cap.
+fn keep_caps(caps: &[ItemCap], first: &[Count], second: &[Count]) -> bool
+    ensures { IsTrue result ↔ All (λ k. count_of_item k.item first.now + count_of_item k.item second.now ≤ k.count) caps.now }
+{
+    for cap in caps {
+        if units(first, cap.item) + units(second, cap.item) > u128::from(cap.count) {
+            return false;
+        }
+    }
+    true
 }
 
 /// Whether both together weigh at most the capacity in each dimension.

@@ -1,7 +1,7 @@
 //! What holds of every instance: a call of a law brings it to a proof.
 
 ghost use Rattle.packing_laws.specs.Floors.{MaterialIsFloor, BestTypeGivesFloor, NoPlaceNoPacking, SingleIsReached};
-ghost use Rattle.packing_laws.specs.Printed.{PackingsFit};
+ghost use Rattle.packing_laws.specs.Printed.{PackingsFit, EmptyBinsCanGo};
 ghost use Rattle.packing_laws.specs.FloorExamples.{FloorsComeOut};
 
 /// No packing costs less than the material bound.
@@ -32,4 +32,9 @@ pub fn floors_come_out()
 /// The sums that `tidy` forms of a packing of an instance fit.
 pub fn packings_fit()
     ensures { PackingsFit }
+{}
+
+/// A packing without its empty bins is a packing, and costs no more.
+pub fn empty_bins_can_go()
+    ensures { EmptyBinsCanGo }
 {}

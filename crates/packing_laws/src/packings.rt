@@ -1,5 +1,6 @@
 ghost use Rattle.std.specs.Prelude.{◌≡◌, ℕ, List};
 
+use arc_num::Listed;
 use std::alloc::Global;
 use std::marker::Model;
 
@@ -12,33 +13,7 @@ pub struct Count {
 }
 
 /// What is in a bin.
-#[derive(Clone, Debug, Drop)]
-pub struct Counts {
-    list: Vec<Count>,
-}
-
-impl Model for Counts {
-    ghost use Rattle.std.specs.Prelude.{List};
-    ghost use Rattle.packing_laws.specs.declared.packings.Count.{Count};
-
-    ghost Value = { List Count };
-
-    ghost view = { λ s. s.list.items };
-}
-
-impl Counts {
-    pub fn new(list: Vec<Count>) -> Self
-        ensures { result ≡ list.items }
-    {
-        Counts { list }
-    }
-
-    pub fn as_slice(&self) -> &[Count]
-        ensures { result.now ≡ self.now }
-    {
-        self.list.as_slice()
-    }
-}
+pub type Counts = Listed<Count>;
 
 /// Bins of a type, numbered from 1, that are alike: so many times, with these counts in each.
 #[derive(Clone, Debug, Drop)]

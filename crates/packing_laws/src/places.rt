@@ -31,7 +31,7 @@ fn fits_some(item: &Item, types: &[BinType]) -> bool
 fn some_fits(forms: &[Numbers], cap: &[u32]) -> bool
     ensures { result ≡ list_any (λ v. vector_fits v cap.now) forms.now }
 {
-    forms.iter().any(|form| fits_within(form.as_slice(), cap))
+    forms.iter().any(|form| vector_fits(form.as_slice(), cap))
 }
 
 /// A form that is nowhere greater than the capacity, by its number from 1.
@@ -41,14 +41,16 @@ pub(crate) fn fitting_form(forms: &[Numbers], cap: &[u32]) -> Option<u32>
     ensures some { IfSome result (λ f. IsAmong f (length forms.now) × (vector_fits (slice_index_or forms.now (f - 1) []) cap.now ≡ true)) }
 {
     for (at, form) in forms.iter().enumerate() {
-        if fits_within(form.as_slice(), cap) {
+        if vector_fits(form.as_slice(), cap) {
             return Some(at as u32 + 1);
         }
     }
     None
 }
 
-fn fits_within(vector: &[u32], cap: &[u32]) -> bool
+/// Whether no number of the vector passes that of the capacity at its place. Places that one of them lacks are not looked
+/// at.
+pub fn vector_fits(vector: &[u32], cap: &[u32]) -> bool
     ensures { result ≡ vector_fits vector.now cap.now }
 {
     vector.iter().zip(cap).all(|(x, most)| x <= most)

@@ -1,7 +1,7 @@
 ghost use Rattle.std.specs.Prelude.{◌≡◌, ◌+◌, ◌-◌, ◌*◌, ◌^◌, ◌<◌, ◌≤◌, ◌↔◌, [], length, IsNone, IsSome, IfSome, MatchOption, min, ◌⊎◌, ◌&&◌, is_none, false};
 ghost use Rattle.packing_laws.specs.Instances.{IsItem};
 ghost use Rattle.packing_laws.specs.Floors.{item_fits, single_costs, single_of, HasSingle};
-ghost use Rattle.packing_laws.specs.Choices.{IsChoiceOf, IsCheapest};
+ghost use Rattle.packing_laws.specs.inner.Choices.{IsChoiceOf, IsCheapest};
 
 use crate::instances::{BinType, Instance, Item};
 use crate::places::fitting_form;

@@ -3,10 +3,10 @@
 ghost use Rattle.std.specs.Prelude.{◌≡◌, IfOk};
 
 use crate::{
-    Bin, BinType, Count, Counts, Instance, Item, Numbers, Packing, Vectors, best_type_gives_floor,
-    cost, fits, floors_come_out, homeless_item, is_packing, join_bins, material_bound,
-    material_is_floor, no_place_no_packing, packings_fit, single_cost, single_is_reached, tidy,
-    units_apart,
+    Bin, BinType, Count, Counts, Instance, Item, ItemCap, MaterialSource, Numbers, Packing,
+    Vectors, best_type_gives_floor, cost, empty_bins_can_go, fits, floors_come_out, homeless_item,
+    is_packing, join_bins, material_bound, material_is_floor, material_source, no_place_no_packing,
+    packings_fit, single_cost, single_is_reached, tidy, units_apart, vector_fits,
 };
 use arc_num::Memory;
 use std::alloc::Global;
@@ -21,6 +21,30 @@ fn bin_type(alloc: Global, cap: &[u32], cost: u32, limit: Option<u32>) -> Result
     })
 }
 
+fn item(alloc: Global, demand: u32, forms: &[&[u32]]) -> Result<Item, Memory> {
+    let mut all = Vectors::empty(alloc);
+    for form in forms {
+        all.push(Numbers::new(Vec::from_slice(alloc, form)?))?;
+    }
+    Ok(Item { demand, forms: all })
+}
+
+/// An instance of one item, with a cap where it has one.
+fn of_one_item(
+    alloc: Global,
+    dims: u32,
+    types: Vec<BinType>,
+    item: Item,
+    cap: Option<u32>,
+) -> Result<Option<Instance>, Memory> {
+    let mut caps = Vec::new(alloc);
+    if let Some(count) = cap {
+        caps.push(ItemCap { item: 1, count })?;
+    }
+    let items = vec![in alloc; item]?;
+    Ok(Instance::with_caps(dims, types, items, caps))
+}
+
 /// An instance of one type and one item with one form.
 fn plain(
     alloc: Global,
@@ -30,13 +54,7 @@ fn plain(
     form: &[u32],
 ) -> Result<Option<Instance>, Memory> {
     let types = vec![in alloc; bin_type(alloc, cap, 1, limit)?]?;
-    let forms = vec![in alloc; Numbers::new(Vec::from_slice(alloc, form)?)]?;
-    let items = vec![in alloc;
-        Item {
-            demand,
-            forms: Vectors::new(forms)
-        },
-    ]?;
+    let items = vec![in alloc; item(alloc, demand, &[form])?]?;
     Ok(Instance::new(1, types, items))
 }
 
@@ -133,14 +151,8 @@ fn a_limited_type_and_a_dear_one(rt: HostRuntime) -> Result<(), Fail> {
         bin_type(alloc, &[10], 1, Some(1))?,
         bin_type(alloc, &[10], 5, None)?,
     ]?;
-    let forms = vec![in alloc; Numbers::new(vec![in alloc; 6]?)]?;
-    let items = vec![in alloc;
-        Item {
-            demand: 2,
-            forms: Vectors::new(forms)
-        },
-    ]?;
-    let instance = Instance::new(1, types, items).ok_or("an instance")?;
+    let six = item(alloc, 2, &[&[6]])?;
+    let instance = of_one_item(alloc, 1, types, six, None)?.ok_or("an instance")?;
     expect_floors(&rt, &instance, 2, Some(10), None);
     Ok(())
 }
@@ -149,17 +161,8 @@ fn a_limited_type_and_a_dear_one(rt: HostRuntime) -> Result<(), Fail> {
 fn two_forms_in_two_dimensions(rt: HostRuntime) -> Result<(), Fail> {
     let alloc = rt.alloc();
     let types = vec![in alloc; bin_type(alloc, &[3, 3], 1, None)?]?;
-    let forms = vec![in alloc;
-        Numbers::new(vec![in alloc; 3, 0]?),
-        Numbers::new(vec![in alloc; 0, 3]?),
-    ]?;
-    let items = vec![in alloc;
-        Item {
-            demand: 2,
-            forms: Vectors::new(forms)
-        },
-    ]?;
-    let instance = Instance::new(2, types, items).ok_or("an instance")?;
+    let turned = item(alloc, 2, &[&[3, 0], &[0, 3]])?;
+    let instance = of_one_item(alloc, 2, types, turned, None)?.ok_or("an instance")?;
     expect_floors(&rt, &instance, 0, Some(2), None);
     Ok(())
 }
@@ -216,11 +219,7 @@ fn cutting_list(alloc: Global) -> Result<Option<Instance>, Memory> {
     ];
     let mut items = Vec::new(alloc);
     for (length, demand) in lengths {
-        let forms = vec![in alloc; Numbers::new(vec![in alloc; length]?)]?;
-        items.push(Item {
-            demand,
-            forms: Vectors::new(forms),
-        })?;
+        items.push(item(alloc, demand, &[&[length]])?)?;
     }
     let types = vec![in alloc; bin_type(alloc, &[5600], 1, None)?]?;
     Ok(Instance::new(1, types, items))
@@ -307,6 +306,7 @@ fn laws_hold() {
     no_place_no_packing();
     single_is_reached();
     packings_fit();
+    empty_bins_can_go();
     floors_come_out();
 }
 
@@ -418,18 +418,154 @@ fn bins_of_two_types_joined_in_the_cheaper(rt: HostRuntime) -> Result<(), Fail> 
         bin_type(alloc, &[10], 3, None)?,
         bin_type(alloc, &[12], 2, None)?,
     ]?;
-    let forms = vec![in alloc; Numbers::new(vec![in alloc; 5]?)]?;
-    let items = vec![in alloc;
-        Item {
-            demand: 2,
-            forms: Vectors::new(forms)
-        },
-    ]?;
-    let instance = Instance::new(1, types, items).ok_or("an instance")?;
+    let five = item(alloc, 2, &[&[5]])?;
+    let instance = of_one_item(alloc, 1, types, five, None)?.ok_or("an instance")?;
     let bins = vec![in alloc; bin(alloc, 1, 1, &[(1, 1)])?, bin(alloc, 2, 1, &[(1, 1)])?]?;
     let mut packing = Packing::new(bins);
     assert!(rt; join_tidied(&instance, &mut packing)?);
     let expected = vec![in alloc; bin(alloc, 2, 1, &[(1, 2)])?]?;
+    assert!(rt; are_equal(packing.bins(), expected.as_slice()));
+    Ok(())
+}
+
+#[test]
+fn vectors_that_fit(rt: HostRuntime) {
+    assert!(rt; vector_fits(&[3, 0], &[3, 3]));
+    assert!(rt; !vector_fits(&[3, 4], &[3, 3]));
+}
+
+fn source_of(instance: &Instance) -> Option<(u32, u32)> {
+    material_source(instance).map(|source: MaterialSource| (source.dim, source.bin_type))
+}
+
+#[test]
+fn sources_of_material_bounds(rt: HostRuntime) -> Result<(), Fail> {
+    let alloc = rt.alloc();
+    for (first, second, form, expected) in [
+        ((10, 10, 1), (10, 20, 1), (1, 9), Some((2, 2))),
+        ((10, 10, 1), (20, 20, 2), (3, 3), Some((1, 1))),
+        ((0, 10, 1), (5, 10, 9), (3, 2), Some((1, 2))),
+        ((10, 10, 1), (10, 10, 0), (3, 3), None),
+    ] {
+        let types = vec![in alloc;
+            bin_type(alloc, &[first.0, first.1], first.2, None)?,
+            bin_type(alloc, &[second.0, second.1], second.2, None)?,
+        ]?;
+        let ten = item(alloc, 10, &[&[form.0, form.1]])?;
+        let instance = of_one_item(alloc, 2, types, ten, None)?.ok_or("an instance")?;
+        assert_eq!(rt; source_of(&instance), expected);
+    }
+    Ok(())
+}
+
+/// An instance of three items, the caps of which are given.
+fn three_items(alloc: Global, given: &[(u32, u32)]) -> Result<Option<Instance>, Memory> {
+    let mut caps = Vec::new(alloc);
+    for (item, count) in given {
+        caps.push(ItemCap {
+            item: *item,
+            count: *count,
+        })?;
+    }
+    let types = vec![in alloc; bin_type(alloc, &[10], 1, None)?]?;
+    let items = vec![in alloc;
+        item(alloc, 4, &[&[2]])?,
+        item(alloc, 1, &[&[3]])?,
+        item(alloc, 1, &[&[4]])?,
+    ]?;
+    Ok(Instance::with_caps(1, types, items, caps))
+}
+
+#[test]
+fn caps_of_items(rt: HostRuntime) -> Result<(), Fail> {
+    let instance = three_items(rt.alloc(), &[(1, 2), (3, 1_000_000)])?.ok_or("an instance")?;
+    assert_eq!(rt; instance.cap_count(), 2);
+    assert_eq!(rt; instance.caps()[1].item, 3);
+    for (item, cap) in [
+        (0, None),
+        (1, Some(2)),
+        (2, None),
+        (3, Some(1_000_000)),
+        (4, None),
+    ] {
+        assert_eq!(rt; instance.cap_of(item), cap);
+    }
+    Ok(())
+}
+
+#[test]
+fn caps_outside_the_limits(rt: HostRuntime) -> Result<(), Fail> {
+    for caps in [
+        [(0, 1)].as_slice(),
+        [(4, 1)].as_slice(),
+        [(1, 0)].as_slice(),
+        [(1, 1_000_001)].as_slice(),
+        [(1, 1), (1, 1)].as_slice(),
+        [(2, 1), (1, 1)].as_slice(),
+    ] {
+        assert!(rt; three_items(rt.alloc(), caps)?.is_none());
+    }
+    Ok(())
+}
+
+/// So many times the number 1.
+fn ones(alloc: Global, dims: u32) -> Result<Vec<u32>, Memory> {
+    let mut numbers = Vec::new(alloc);
+    for _place in 0..dims {
+        numbers.push(1)?;
+    }
+    Ok(numbers)
+}
+
+#[test]
+fn dimensions_and_caps_together(rt: HostRuntime) -> Result<(), Fail> {
+    let alloc = rt.alloc();
+    for (dims, cap, expected) in [
+        (31, Some(1), true),
+        (32, None, true),
+        (32, Some(1), false),
+        (33, None, false),
+        (0, None, false),
+    ] {
+        let numbers = ones(alloc, dims)?;
+        let types = vec![in alloc; bin_type(alloc, numbers.as_slice(), 1, None)?]?;
+        let unit = item(alloc, 1, &[numbers.as_slice()])?;
+        assert_eq!(rt;
+            of_one_item(alloc, dims, types, unit, cap)?.is_some(),
+            expected
+        );
+    }
+    Ok(())
+}
+
+/// An item of two forms, of which a bin holds three units at most, though there is room for ten.
+fn three_of_two_forms(alloc: Global) -> Result<Option<Instance>, Memory> {
+    let types = vec![in alloc; bin_type(alloc, &[10], 1, None)?]?;
+    of_one_item(alloc, 1, types, item(alloc, 7, &[&[1], &[1]])?, Some(3))
+}
+
+#[test]
+fn a_cap_counts_all_forms(rt: HostRuntime) -> Result<(), Fail> {
+    let alloc = rt.alloc();
+    let instance = three_of_two_forms(alloc)?.ok_or("an instance")?;
+    for (second, times, each, expected) in [(1, 2, 2, true), (2, 1, 3, false)] {
+        let bin = counted_bin(alloc, 1, 1, &[count_of(1, 1, 2), count_of(1, 2, second)])?;
+        assert_eq!(rt; fits(&instance, &bin), expected);
+        let rest = counted_bin(alloc, 1, times, &[count_of(1, 1, each)])?;
+        let packing = Packing::new(vec![in alloc; bin, rest]?);
+        assert_eq!(rt; is_packing(&instance, &packing), expected);
+    }
+    Ok(())
+}
+
+#[test]
+fn a_cap_keeps_bins_apart(rt: HostRuntime) -> Result<(), Fail> {
+    let alloc = rt.alloc();
+    let instance = three_of_two_forms(alloc)?.ok_or("an instance")?;
+    expect_floors(&rt, &instance, 1, Some(7), None);
+    let mut packing = units_apart(alloc, &instance)?.ok_or("a packing")?;
+    assert!(rt; join_tidied(&instance, &mut packing)?);
+    let expected = vec![in alloc; bin(alloc, 1, 2, &[(1, 2)])?, bin(alloc, 1, 1, &[(1, 3)])?]?;
     assert!(rt; are_equal(packing.bins(), expected.as_slice()));
     Ok(())
 }

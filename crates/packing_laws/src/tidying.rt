@@ -1,10 +1,10 @@
 ghost use Rattle.std.specs.Prelude.{◌≡◌, ℕ, ◌+◌, ◌^◌, ◌<◌, ◌≤◌, ◌↔◌, ◌∷◌, ◌++◌, All, IsTrue, IsErr, IfOk, filter, map, nat_lt, sum_by, if◌then◌else◌};
 ghost use Rattle.std.specs.declared.cmp.Ordering.TheVariants.{Equal};
-ghost use Rattle.packing_laws.specs.Printed.{bins_of, filled_bins, units_in, is_filled, form_cmp, bin_cmp, SameContent, AreAlike, IsTidyContent, IsTidyBin, IsTidied, IsWrittenPacking, SumsFit};
+ghost use Rattle.packing_laws.specs.Printed.{bins_of, filled_bins, units_in, holds_units, form_cmp, bin_cmp, SameContent, AreAlike, IsTidyContent, IsTidyBin, IsTidied, IsWrittenPacking, SumsFit};
 ghost use Rattle.packing_laws.specs.Instances.{InstanceValue};
 ghost use Rattle.packing_laws.specs.Packings.{cost_of};
 ghost use Rattle.packing_laws.specs.Floors.{HasOneUnitEach};
-ghost use Rattle.packing_laws.specs.Tidying.{put_last, merged, joined_count, joined_bin, bin_of};
+ghost use Rattle.packing_laws.specs.inner.Tidying.{put_last, merged, joined_count, joined_bin, bin_of};
 
 use crate::packings::{Bin, Count, Counts, Packing};
 use arc_num::Memory;
@@ -40,7 +40,7 @@ fn lines_of(alloc: Global, bins: &[Bin]) -> Result<Vec<Line>, Memory>
     requires { All (λ b. 0 < b.times → units_in b.counts < 2 ^ 32) bins.now }
     ensures tidy { IfOk result (λ v. All IsTidyBin (map bin_of v.items)) }
     ensures alike { IfOk result (λ v. AreAlike (filled_bins (bins_of bins.now)) (bins_of (map bin_of v.items))) }
-    ensures times { IfOk result (λ v. sum_by (λ x. x.times) v.items ≡ sum_by (λ b. if is_filled b then b.times else 0) bins.now) }
+    ensures times { IfOk result (λ v. sum_by (λ x. x.times) v.items ≡ sum_by (λ b. if holds_units b then b.times else 0) bins.now) }
 {
     let mut lines = Vec::new(alloc);
     for bin in bins {

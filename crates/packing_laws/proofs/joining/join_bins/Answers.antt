@@ -4,7 +4,7 @@ use Rattle.packing_laws.specs.declared.packings.Bin.{Bin}
 use Rattle.packing_laws.specs.Instances.{InstanceValue}
 use Rattle.packing_laws.specs.Packings.{cost_of}
 use Rattle.packing_laws.specs.Printed.{bins_of, SumsFit, IsWrittenPacking}
-use Rattle.packing_laws.specs.Joining.{AreJoined}
+use Rattle.packing_laws.specs.inner.Joining.{AreJoined}
 use Rattle.packing_laws.proofs.JoinedBins.{tidied-joined}
 use Rattle.packing_laws.proofs.joining.join_bins.Goals as goal
 

@@ -5,7 +5,7 @@ use Rattle.packing_laws.specs.declared.packings.Bin.{Bin}
 use Rattle.packing_laws.specs.Instances.{InstanceValue}
 use Rattle.packing_laws.specs.Packings.{Content}
 use Rattle.packing_laws.specs.Printed.{units_in}
-use Rattle.packing_laws.specs.Joining.{IsMadeOf, IsStep}
+use Rattle.packing_laws.specs.inner.Joining.{IsMadeOf, IsStep}
 use Rattle.packing_laws.proofs.BinTotals.{at_times}
 use Rattle.packing_laws.proofs.JoinSteps.{both-small, step-with}
 use Rattle.packing_laws.proofs.joining.join_with.Goals as goal

@@ -2,7 +2,7 @@
 use Rattle.std.proofs.Common.{◌≤◌, ◌++◌}
 use Rattle.packing_laws.specs.Packings.{cost_of}
 use Rattle.packing_laws.specs.Printed.{bins_of, IsWrittenPacking}
-use Rattle.packing_laws.specs.Joining.{AreJoined, work_of}
+use Rattle.packing_laws.specs.inner.Joining.{AreJoined, work_of}
 use Rattle.packing_laws.proofs.joining.joined_bins.Given as goal
 
 abbrev pub invariant-loop-bin : goal.invariant-loop-bin

@@ -3,7 +3,7 @@ use Rattle.std.proofs.Common.{◌∷◌, ◌++◌, [], List, sym, subst}
 use Rattle.std.proofs.lemmas.Result.{on_ok_weaker}
 use Rattle.packing_laws.specs.declared.packings.Bin.{Bin}
 use Rattle.packing_laws.specs.Instances.{InstanceValue}
-use Rattle.packing_laws.specs.Joining.{IsHalved, IsStep}
+use Rattle.packing_laws.specs.inner.Joining.{IsHalved, IsStep}
 use Rattle.packing_laws.proofs.JoinSteps.{bin-fits, alike-small, step-alike, step-unused}
 use Rattle.packing_laws.proofs.joining.place.Goals as goal
 

@@ -3,7 +3,7 @@ use Rattle.std.proofs.Common.{List, sym, subst, refl, All}
 use Rattle.packing_laws.specs.declared.packings.Bin.{Bin}
 use Rattle.packing_laws.specs.Instances.{InstanceValue}
 use Rattle.packing_laws.specs.Packings.{Exists}
-use Rattle.packing_laws.specs.Joining.{AreApart}
+use Rattle.packing_laws.specs.inner.Joining.{AreApart}
 use Rattle.packing_laws.proofs.JoinSteps.{bin-fits, done-fit, step-done}
 use Rattle.packing_laws.proofs.joining.settle.Goals as goal
 

@@ -1,7 +1,7 @@
 -- The cheapest choice so far, and the costs that are left.
 use Rattle.std.proofs.Common.{◌&&◌, map, filter, drop, IfSome, is_none}
 use Rattle.std.specs.Option.{option_map}
-use Rattle.packing_laws.specs.Choices.{IsChoice}
+use Rattle.packing_laws.specs.inner.Choices.{IsChoice}
 use Rattle.packing_laws.specs.Floors.{item_fits, single_costs}
 use Rattle.packing_laws.proofs.LeftOver.{IsLeftOf}
 use Rattle.packing_laws.proofs.single.cheapest.Given as goal

@@ -5,7 +5,7 @@ use Rattle.std.proofs.lemmas.List.Sums.{sum_by_more}
 use Rattle.packing_laws.specs.declared.instances.Item.{Item}
 use Rattle.packing_laws.specs.Instances.{InstanceValue}
 use Rattle.packing_laws.specs.Floors.{least_of, single_costs}
-use Rattle.packing_laws.specs.Choices.{IsCheapest}
+use Rattle.packing_laws.specs.inner.Choices.{IsCheapest}
 use Rattle.packing_laws.proofs.single.single_cost.Goals as goal
 use Rattle.packing_laws.proofs.single.single_cost.Goals.{then-item-gt0+in-Some, else-item-gt0}
 

@@ -4,7 +4,7 @@ use Rattle.std.specs.Ordering.{is_eq}
 use Rattle.std.proofs.lemmas.Bool.{false_from_ne_true}
 use Rattle.packing_laws.specs.declared.packings.Count.{Count}
 use Rattle.packing_laws.specs.Printed.{form_cmp}
-use Rattle.packing_laws.specs.Tidying.{put_last, joined_count}
+use Rattle.packing_laws.specs.inner.Tidying.{put_last, joined_count}
 use Rattle.packing_laws.proofs.Merging.{put_last-joined, put_last-apart, equal_from}
 use Rattle.packing_laws.proofs.tidying.add_count.Goals as goal
 

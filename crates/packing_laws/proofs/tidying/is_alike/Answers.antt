@@ -3,7 +3,7 @@ use Rattle.std.proofs.Common.{◌≡◌, ◌∙◌, ap, sym}
 use Rattle.std.specs.Ordering.{is_eq, nat_cmp, ordering_then}
 use Rattle.std.specs.Cmp.Lexicographic.{slice_cmp}
 use Rattle.packing_laws.specs.Printed.{bin_cmp, count_cmp}
-use Rattle.packing_laws.specs.Tidying.{bin_of}
+use Rattle.packing_laws.specs.inner.Tidying.{bin_of}
 use Rattle.packing_laws.proofs.Merging.{equal_from}
 use Rattle.packing_laws.proofs.tidying.is_alike.Goals as goal
 

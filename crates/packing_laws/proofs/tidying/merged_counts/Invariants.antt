@@ -1,7 +1,7 @@
 -- The counts so far are merged.
 use Rattle.std.proofs.Common.{◌≡◌, take}
 use Rattle.packing_laws.specs.Printed.{form_cmp}
-use Rattle.packing_laws.specs.Tidying.{merged, joined_count}
+use Rattle.packing_laws.specs.inner.Tidying.{merged, joined_count}
 use Rattle.packing_laws.proofs.tidying.merged_counts.Given as goal
 
 abbrev pub invariant-loop-count : goal.invariant-loop-count

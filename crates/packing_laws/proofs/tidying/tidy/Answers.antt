@@ -3,7 +3,7 @@ use Rattle.std.proofs.Common.{◌≡◌, ◌∙◌, List, map, ap, subst}
 use Rattle.packing_laws.specs.declared.packings.Bin.{Bin}
 use Rattle.packing_laws.specs.declared.tidying.Line.{Line}
 use Rattle.packing_laws.specs.Printed.{bin_cmp}
-use Rattle.packing_laws.specs.Tidying.{merged, joined_bin, bin_of}
+use Rattle.packing_laws.specs.inner.Tidying.{merged, joined_bin, bin_of}
 use Rattle.packing_laws.proofs.TidyParts.{AreLines, tidied}
 use Rattle.packing_laws.proofs.TidyLaws.{tidied-packing, tidied-cost, tidied-one_each, tidied-same_cost}
 use Rattle.packing_laws.proofs.tidying.tidy.Goals as goal

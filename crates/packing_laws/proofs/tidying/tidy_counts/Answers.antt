@@ -4,7 +4,7 @@ use Rattle.std.specs.List.Sorted.{IsPermutation}
 use Rattle.std.proofs.lemmas.Result.{IfOk-weaker}
 use Rattle.packing_laws.specs.declared.packings.Count.{Count}
 use Rattle.packing_laws.specs.Printed.{units_in, form_cmp, IsTidyContent, SameContent}
-use Rattle.packing_laws.specs.Tidying.{merged, joined_count}
+use Rattle.packing_laws.specs.inner.Tidying.{merged, joined_count}
 use Rattle.packing_laws.proofs.TidyParts.{AreMerged-tidy, AreMerged-same, AreMerged-units, units_in-sorted}
 use Rattle.packing_laws.proofs.tidying.tidy_counts.Goals as goal
 
