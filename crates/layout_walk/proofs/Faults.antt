@@ -1,13 +1,15 @@
 -- Which faults a part of a text can have.
-use Rattle.std.proofs.Common.{zero, suc, ◌≡◌, ℕ, ◌+◌, Bool, true, false, cond, List, [], ◌∷◌, ◌++◌, Some, None, Result, Ok, Err, refl, subst}
-use Rattle.std.specs.Prelude.{codes, not, nat_le, ◌&&◌, ◌==◌}
+use Rattle.std.proofs.Common.{zero, suc, ◌≡◌, ℕ, ◌+◌, ◌-◌, Bool, true, false, cond, List, [], ◌∷◌, ◌++◌, Some, None, Result, Ok, Err, refl, subst}
+use Rattle.std.specs.Prelude.{codes, min, not, nat_le, ◌&&◌, ◌==◌}
 use Rattle.std.specs.Str.{bytes_eq}
 use Rattle.std.specs.List.{list_all}
-use Rattle.arc_num.specs.declared.TheConstants.{MAX_VALUE}
+use Rattle.arc_num.specs.declared.TheConstants.{MAX_VALUE, MAX_DIMS, MAX_CAP}
 use Rattle.arc_num.specs.Decimals.{are_digits, value_of}
 use Rattle.packing_laws.specs.declared.fault.ReadFault.{ReadFault}
 use Rattle.packing_laws.specs.declared.fault.ReadFault.TheVariants.{Short, NotNumber, Range, ZeroWeight, Extra}
-use Rattle.packing_laws.specs.Places.{Place, ◌>>=◌, token_in, value_in, limit_in, next_number, next_limit, several, component_behind, next_vector, next_form, end_in, end_at}
+use Rattle.packing_laws.specs.Places.{Place, ◌>>=◌, token_in, value_in, limit_in, next_number, next_limit, several, component_behind, next_vector, next_form, end_in, end_at, caps_word_in, caps_word}
+use Rattle.packing_laws.specs.Layouts.{last_item, next_cap, cap_behind, caps_if, caps_at}
+use Rattle.layout_walk.proofs.CapParts.{cap_of, after_item, after_count, after_caps, after_word}
 
 module _ (P : ReadFault → Type 0) where
   -- every fault is such a fault
@@ -79,3 +81,32 @@ module _ (P : ReadFault → Type 0) where
   pub faults-end : ((k : ℕ) → P (Extra k)) → (p : Place) → FaultsAre (end_at p)
   unfolding end_at
   faults-end extra p = faults-end_in extra p.count p.left
+
+  module _ (short : (k : ℕ) → P (Short k)) (not_number : (k : ℕ) → P (NotNumber k)) (range : (k : ℕ) → P (Range k)) (extra : (k : ℕ) → P (Extra k)) where
+    faults-caps_word_in : (count : ℕ) (ts : List (List ℕ)) → FaultsAre (caps_word_in count ts)
+    faults-caps_word_in count [] = faults-none (false, record { count = count; left = [] })
+    faults-caps_word_in count (t ∷ ts) =
+        faults-either (bytes_eq t (codes "caps")) (Ok (true, record { count = count + 1; left = ts })) (Err (Extra (count + 1))) (faults-none (true, record { count = count + 1; left = ts })) (faults-one (Extra (count + 1)) (extra (count + 1)))
+
+    faults-caps_word : (p : Place) → FaultsAre (caps_word p)
+    unfolding caps_word
+    faults-caps_word p = faults-caps_word_in p.count p.left
+
+    faults-cap : (items last : ℕ) (p : Place) → FaultsAre (next_cap items last p)
+    unfolding next_cap
+    faults-cap items last p =
+        faults-then (next_number (last + 1) items p) (after_item) (faults-number short not_number range (last + 1) items p)
+        (λ i. faults-then (next_number 1 MAX_CAP i.1) (λ (n : ℕ × Place). Ok (cap_of i.0 n.0, n.1)) (faults-number short not_number range 1 MAX_CAP i.1) (λ n. faults-none (cap_of i.0 n.0, n.1)))
+
+    faults-caps_if : (b : Bool) (dims items : ℕ) (p : Place) → FaultsAre (caps_if b dims items p)
+    faults-caps_if false dims items p = faults-none ([], p)
+    faults-caps_if true dims items p =
+        faults-then (next_number 0 (min items (MAX_DIMS - dims)) p) (after_count items) (faults-number short not_number range 0 (min items (MAX_DIMS - dims)) p)
+        (λ r. faults-several (cap_behind items) (λ ks q. faults-cap items (last_item ks) q) r.0 [] r.1)
+
+    pub faults-caps : (dims items : ℕ) (p : Place) → FaultsAre (caps_at dims items p)
+    unfolding caps_at
+    faults-caps dims items p =
+        faults-then (caps_word p) (after_word dims items) (faults-caps_word p)
+        (λ word. faults-then (caps_if word.0 dims items word.1) after_caps (faults-caps_if word.0 dims items word.1)
+        (λ ks. faults-then (end_at ks.1) (λ (_ : Unit {0}). Ok ks.0) (faults-end extra ks.1) (λ _. faults-none ks.0)))

@@ -1,4 +1,7 @@
 pub mod Repeats
 pub mod Rows
 pub mod Numerals
+pub mod CapParts
+pub mod CapRows
 pub mod Faults
+pub mod ItemTails

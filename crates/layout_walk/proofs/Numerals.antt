@@ -13,18 +13,18 @@ use Rattle.packing_laws.specs.declared.fault.ReadFault.{ReadFault}
 use Rattle.packing_laws.specs.declared.fault.ReadFault.TheVariants.{ZeroWeight}
 use Rattle.packing_laws.specs.Instances.{IsLimit, IsVector, IsForm}
 use Rattle.packing_laws.specs.Places.{Place, ◌>>=◌, value_in, limit_in, next_number, next_limit, component_behind, next_vector, next_form}
-use Rattle.packing_laws.specs.Layouts.{SpellsField, vector_row}
+use Rattle.packing_laws.specs.Layouts.{Number, SpellsField, vector_row, limit_field}
 use Rattle.layout_walk.proofs.Rows.{IsExact, EachLawful, token-exact, several-exact, exact-same, each-All, All-each, chosen, read_both, both_read}
 
-value_means : (low high k : ℕ) (t : List ℕ) (x : ℕ) → value_in low high k t ≡ Ok x → ((low ≤ x) × (x ≤ high)) × SpellsField t (Some x)
+value_means : (low high k : ℕ) (t : List ℕ) (x : ℕ) → value_in low high k t ≡ Ok x → ((low ≤ x) × (x ≤ high)) × SpellsField t (Number x)
 value_means low high k t x h = grind arith
 
-value_meant : (low high k : ℕ) (t : List ℕ) (x : ℕ) → (low ≤ x) × (x ≤ high) → SpellsField t (Some x) → value_in low high k t ≡ Ok x
+value_meant : (low high k : ℕ) (t : List ℕ) (x : ℕ) → (low ≤ x) × (x ≤ high) → SpellsField t (Number x) → value_in low high k t ≡ Ok x
 value_meant low high k t x l h = grind arith
 
-pub number-exact : (low high : ℕ) → IsExact (next_number low high) (λ (x : ℕ). Some x ∷ []) (λ (x : ℕ). (low ≤ x) × (x ≤ high))
+pub number-exact : (low high : ℕ) → IsExact (next_number low high) (λ (x : ℕ). Number x ∷ []) (λ (x : ℕ). (low ≤ x) × (x ≤ high))
 unfolding next_number
-number-exact low high = token-exact (value_in low high) (λ (x : ℕ). Some x) (λ (x : ℕ). (low ≤ x) × (x ≤ high)) (value_means low high) (value_meant low high)
+number-exact low high = token-exact (value_in low high) (λ (x : ℕ). Number x) (λ (x : ℕ). (low ≤ x) × (x ≤ high)) (value_means low high) (value_meant low high)
 
 -- a limit that is read is none where the token is -1, and else a number
 none_read : (b : Bool) (r : Result ℕ ReadFault) → cond b (Ok None) (r >>= (λ v. Ok (Some v))) ≡ Ok None → b ≡ true
@@ -37,7 +37,7 @@ some_read true r v h = absurd (cc)
 some_read false (Ok w) v h = (refl, cc)
 some_read false (Err e) v h = absurd (cc)
 
-limit_means : (k : ℕ) (t : List ℕ) (x : Option ℕ) → limit_in k t ≡ Ok x → IsLimit x × SpellsField t x
+limit_means : (k : ℕ) (t : List ℕ) (x : Option ℕ) → limit_in k t ≡ Ok x → IsLimit x × SpellsField t (limit_field x)
 limit_means k t None h = (tt, same_text t (codes "-1") (sym (none_read (bytes_eq t (codes "-1")) (value_in 0 MAX_VALUE k t) h)))
 limit_means k t (Some v) h =
     let some = some_read (bytes_eq t (codes "-1")) (value_in 0 MAX_VALUE k t) v h in
@@ -52,16 +52,16 @@ not_minus_one t true e h =
     let digits : false ≡ true = subst (λ (z : List ℕ). are_digits z ≡ true) same h in
     absurd (cc)
 
-limit_meant : (k : ℕ) (t : List ℕ) (x : Option ℕ) → IsLimit x → SpellsField t x → limit_in k t ≡ Ok x
+limit_meant : (k : ℕ) (t : List ℕ) (x : Option ℕ) → IsLimit x → SpellsField t (limit_field x) → limit_in k t ≡ Ok x
 limit_meant k t None l h = subst (λ (z : List ℕ). limit_in k z ≡ Ok None) (sym h) refl
 limit_meant k t (Some v) l h =
     let other = not_minus_one t (bytes_eq t (codes "-1")) refl h.0 in
     let value = value_meant 0 MAX_VALUE k t v (omega arith, l) h in
     rw (other, value) refl
 
-pub limit-exact : IsExact next_limit (λ (x : Option ℕ). x ∷ []) IsLimit
+pub limit-exact : IsExact next_limit (λ (x : Option ℕ). limit_field x ∷ []) IsLimit
 unfolding next_limit
-limit-exact = token-exact limit_in (λ (x : Option ℕ). x) IsLimit limit_means limit_meant
+limit-exact = token-exact limit_in limit_field IsLimit limit_means limit_meant
 
 abbrev IsComponent : ℕ → Type 0
 IsComponent x = (0 ≤ x) × (x ≤ MAX_VALUE)
@@ -75,8 +75,8 @@ from_vector n v h = (h.size, All-each IsComponent [] v (All-weaker (λ (x : ℕ)
 pub vector-exact : (n : ℕ) → IsExact (next_vector n) vector_row (IsVector n)
 unfolding next_vector
 vector-exact n =
-    exact-same (next_vector n) (flat_map (λ (x : ℕ). Some x ∷ [])) vector_row (λ (v : List ℕ). (length v ≡ n) × EachLawful (λ (_ : List ℕ) (x : ℕ). IsComponent x) [] v) (IsVector n) (flat_map_single (λ (x : ℕ). Some x)) (to_vector n) (from_vector n)
-    (several-exact component_behind (λ (x : ℕ). Some x ∷ []) (λ (_ : List ℕ) (x : ℕ). IsComponent x) (λ _. number-exact 0 MAX_VALUE) n)
+    exact-same (next_vector n) (flat_map (λ (x : ℕ). Number x ∷ [])) vector_row (λ (v : List ℕ). (length v ≡ n) × EachLawful (λ (_ : List ℕ) (x : ℕ). IsComponent x) [] v) (IsVector n) (flat_map_single (λ (x : ℕ). Number x)) (to_vector n) (from_vector n)
+    (several-exact component_behind (λ (x : ℕ). Number x ∷ []) (λ (_ : List ℕ) (x : ℕ). IsComponent x) (λ _. number-exact 0 MAX_VALUE) n)
 
 -- not all numbers are 0
 weighs : (v : List ℕ) → list_all (λ x. x == 0) v ≡ false → Any (λ x. 0 < x) v

@@ -1,13 +1,13 @@
 -- A part of a text is read exactly where its tokens spell its row of fields.
-use Rattle.std.proofs.Common.{zero, suc, ◌≡◌, ℕ, ◌+◌, Bool, true, false, cond, List, [], ◌∷◌, ◌++◌, length, Option, Result, Ok, Err, refl, sym, ap, ◌∙◌, subst, append_assoc, append-nil, arith}
+use Rattle.std.proofs.Common.{zero, suc, ◌≡◌, ℕ, ◌+◌, Bool, true, false, cond, List, [], ◌∷◌, ◌++◌, length, Result, Ok, Err, refl, sym, ap, ◌∙◌, subst, append_assoc, append-nil, arith}
 use Rattle.std.specs.List.{All, flat_map}
 use Rattle.std.proofs.lemmas.List.Elements.{All-nil, All-cons, All-head, All-tail}
 use Rattle.packing_laws.specs.declared.fault.ReadFault.{ReadFault}
 use Rattle.packing_laws.specs.Places.{Place, ◌>>=◌, token_in, several, end_in}
-use Rattle.packing_laws.specs.Layouts.{SpellsField, Spells}
+use Rattle.packing_laws.specs.Layouts.{Field, SpellsField, Spells}
 
 -- the first of the tokens spells the field
-abbrev pub FirstSpells : List (List ℕ) → Option ℕ → Type 0
+abbrev pub FirstSpells : List (List ℕ) → Field → Type 0
 FirstSpells [] f = ⊥
 FirstSpells (t ∷ ts) f = SpellsField t f
 
@@ -21,32 +21,32 @@ abbrev pub behind : Place → Place
 behind p = record { count = p.count + 1; left = others_of p.left }
 
 -- from one place to another the tokens spell the row
-abbrev pub Passes : Place → List (Option ℕ) → Place → Type 0
+abbrev pub Passes : Place → List Field → Place → Type 0
 Passes p [] q = p ≡ q
 Passes p (f ∷ fs) q = FirstSpells p.left f × Passes (behind p) fs q
 
-pub Passes-join : (p : Place) (r s : List (Option ℕ)) (m q : Place) → Passes p r m → Passes m s q → Passes p (r ++ s) q
+pub Passes-join : (p : Place) (r s : List Field) (m q : Place) → Passes p r m → Passes m s q → Passes p (r ++ s) q
 Passes-join p [] s m q h k = subst (λ (x : Place). Passes x s q) (sym h) k
 Passes-join p (f ∷ fs) s m q h k = (h.0, Passes-join (behind p) fs s m q h.1 k)
 
-pub Passes-split : (p : Place) (r s : List (Option ℕ)) (q : Place) → Passes p (r ++ s) q → (m : Place) × (Passes p r m × Passes m s q)
+pub Passes-split : (p : Place) (r s : List Field) (q : Place) → Passes p (r ++ s) q → (m : Place) × (Passes p r m × Passes m s q)
 Passes-split p [] s q h = (p, (refl, h))
 Passes-split p (f ∷ fs) s q h = let rest = Passes-split (behind p) fs s q h.1 in (rest.0, ((h.0, rest.1.0), rest.1.1))
 
 -- the tokens up to the last are the row
-pub Spells-passed : (ts : List (List ℕ)) (count : ℕ) (r : List (Option ℕ)) (q : Place) → Passes (record { count = count; left = ts }) r q → q.left ≡ [] → Spells ts r
+pub Spells-passed : (ts : List (List ℕ)) (count : ℕ) (r : List Field) (q : Place) → Passes (record { count = count; left = ts }) r q → q.left ≡ [] → Spells ts r
 Spells-passed ts count [] q h e = subst (λ (x : List (List ℕ)). Spells x []) (sym (ap (λ (x : Place). x.left) h ∙ e)) tt
 Spells-passed [] count (f ∷ fs) q h e = absurd (h.0)
 Spells-passed (t ∷ ts) count (f ∷ fs) q h e = (h.0, Spells-passed ts (count + 1) fs q h.1 e)
 
-pub Passes-spelled : (ts : List (List ℕ)) (count : ℕ) (r : List (Option ℕ)) → Spells ts r → (q : Place) × (Passes (record { count = count; left = ts }) r q × (q.left ≡ []))
+pub Passes-spelled : (ts : List (List ℕ)) (count : ℕ) (r : List Field) → Spells ts r → (q : Place) × (Passes (record { count = count; left = ts }) r q × (q.left ≡ []))
 Passes-spelled [] count [] h = (record { count = count; left = [] }, (refl, refl))
 Passes-spelled [] count (f ∷ fs) h = absurd h
 Passes-spelled (t ∷ ts) count [] h = absurd h
 Passes-spelled (t ∷ ts) count (f ∷ fs) h = let rest = Passes-spelled ts (count + 1) fs h.1 in (rest.0, ((h.0, rest.1.0), rest.1.1))
 
 -- a part of a text is read exactly where its value is lawful and its tokens spell the row of the value
-pub record IsExact {A : Type 0} (read : Place → Result (A × Place) ReadFault) (row : A → List (Option ℕ)) (Lawful : A → Type 0) : Type 0 where
+pub record IsExact {A : Type 0} (read : Place → Result (A × Place) ReadFault) (row : A → List Field) (Lawful : A → Type 0) : Type 0 where
   pub sound : (p : Place) (x : A) (q : Place) → read p ≡ Ok (x, q) → Lawful x × Passes p (row x) q
   pub complete : (p : Place) (x : A) (q : Place) → Lawful x → Passes p (row x) q → read p ≡ Ok (x, q)
 
@@ -68,7 +68,7 @@ module _ {A : Type 0} where
   same_place r x y p q h k = let e : (x, p) ≡ (y, q) = cc in ap (λ (z : A × Place). z.1) e
 
 -- one token: what it stands for is one field
-module _ {A : Type 0} (meaning : ℕ → List ℕ → Result A ReadFault) (field : A → Option ℕ) (Lawful : A → Type 0)
+module _ {A : Type 0} (meaning : ℕ → List ℕ → Result A ReadFault) (field : A → Field) (Lawful : A → Type 0)
     (means : (k : ℕ) (t : List ℕ) (x : A) → meaning k t ≡ Ok x → Lawful x × SpellsField t (field x))
     (meant : (k : ℕ) (t : List ℕ) (x : A) → Lawful x → SpellsField t (field x) → meaning k t ≡ Ok x) where
   token_sound : (count : ℕ) (ts : List (List ℕ)) (x : A) (q : Place) → token_in meaning count ts ≡ Ok (x, q) → Lawful x × Passes (record { count = count; left = ts }) (field x ∷ []) q
@@ -96,7 +96,7 @@ abbrev pub EachLawful : {A : Type 0} → (List A → A → Type 0) → List A �
 EachLawful Lawful xs [] = Unit {0}
 EachLawful Lawful xs (y ∷ ys) = Lawful xs y × EachLawful Lawful (xs ++ y ∷ []) ys
 
-module _ {A : Type 0} (each : List A → Place → Result (A × Place) ReadFault) (row : A → List (Option ℕ)) (Lawful : List A → A → Type 0)
+module _ {A : Type 0} (each : List A → Place → Result (A × Place) ReadFault) (row : A → List Field) (Lawful : List A → A → Type 0)
     (exact : (xs : List A) → IsExact (each xs) row (Lawful xs)) where
   -- what is read behind the values that are there
   abbrev Added : ℕ → List A → Place → List A → Place → Type 0
@@ -134,10 +134,10 @@ module _ {A : Type 0} (each : List A → Place → Result (A × Place) ReadFault
 
 module _ {A : Type 0} where
   -- the same part, described in other words
-  pub exact-same : (read : Place → Result (A × Place) ReadFault) (row other_row : A → List (Option ℕ)) (Lawful Other : A → Type 0) → ((x : A) → row x ≡ other_row x) → ((x : A) → Lawful x → Other x) → ((x : A) → Other x → Lawful x) → IsExact read row Lawful → IsExact read other_row Other
+  pub exact-same : (read : Place → Result (A × Place) ReadFault) (row other_row : A → List Field) (Lawful Other : A → Type 0) → ((x : A) → row x ≡ other_row x) → ((x : A) → Lawful x → Other x) → ((x : A) → Other x → Lawful x) → IsExact read row Lawful → IsExact read other_row Other
   exact-same read row other_row Lawful Other same to from exact = record {
-    sound = λ p x q h. let s = exact.sound p x q h in (to x s.0, subst (λ (r : List (Option ℕ)). Passes p r q) (same x) s.1);
-    complete = λ p x q l h. exact.complete p x q (from x l) (subst (λ (r : List (Option ℕ)). Passes p r q) (sym (same x)) h);
+    sound = λ p x q h. let s = exact.sound p x q h in (to x s.0, subst (λ (r : List Field). Passes p r q) (same x) s.1);
+    complete = λ p x q l h. exact.complete p x q (from x l) (subst (λ (r : List Field). Passes p r q) (sym (same x)) h);
   }
 
   -- each value is lawful, whatever the ones before it

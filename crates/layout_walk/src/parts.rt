@@ -1,6 +1,6 @@
 ghost use Rattle.std.specs.Prelude.{◌≡◌};
 
-use packing_laws::{BinType, Instance, Item};
+use packing_laws::{BinType, Instance, Item, ItemCap};
 use std::marker::Model;
 
 /// The parts of an instance, whose limits are not tested.
@@ -9,6 +9,7 @@ pub struct Parts {
     dims: u32,
     types: Vec<BinType>,
     items: Vec<Item>,
+    caps: Vec<ItemCap>,
 }
 
 impl Model for Parts {
@@ -16,16 +17,21 @@ impl Model for Parts {
 
     ghost Value = { InstanceValue };
 
-    ghost view = { λ s. record { dims = s.dims; types = s.types.items; items = s.items.items } };
+    ghost view = { λ s. record { dims = s.dims; types = s.types.items; items = s.items.items; caps = s.caps.items } };
 }
 
 impl Parts {
     ghost use Rattle.packing_laws.specs.Instances.{InstanceValue, IsInstance};
 
-    pub fn new(dims: u32, types: Vec<BinType>, items: Vec<Item>) -> Parts
-        ensures { result ≡ record { dims = dims; types = types.items; items = items.items } }
+    pub fn new(dims: u32, types: Vec<BinType>, items: Vec<Item>, caps: Vec<ItemCap>) -> Parts
+        ensures { result ≡ record { dims = dims; types = types.items; items = items.items; caps = caps.items } }
     {
-        Parts { dims, types, items }
+        Parts {
+            dims,
+            types,
+            items,
+            caps,
+        }
     }
 
     /// The instance of these parts.
@@ -33,7 +39,7 @@ impl Parts {
         requires { IsInstance self }
         ensures { result ≡ self }
     {
-        match Instance::new(self.dims, self.types, self.items) {
+        match Instance::with_caps(self.dims, self.types, self.items, self.caps) {
             Some(instance) => instance,
             None => unreachable!(),
         }

@@ -1,5 +1,5 @@
-ghost use Rattle.std.specs.Prelude.{◌≡◌, ℕ, ◌+◌, ◌<◌, ◌≤◌, MatchResult};
-ghost use Rattle.packing_laws.specs.Places.{front, value_in, limit_in, next_number, next_limit, end_at, Gives};
+ghost use Rattle.std.specs.Prelude.{◌≡◌, ℕ, ◌+◌, ◌<◌, ◌≤◌, IfOk, MatchResult};
+ghost use Rattle.packing_laws.specs.Places.{front, value_in, limit_in, next_number, next_limit, caps_word, end_at, Gives};
 
 use arc_num::{MAX_VALUE, Tokens, is_digits, number};
 use packing_laws::ReadFault;
@@ -36,7 +36,8 @@ impl<'a> Places<'a> {
     #[tactic(auto, unfolding(packing_laws::specs::Places::next_number))]
     /// The number at the next place, from `low` to `high`.
     pub fn number(&mut self, low: u32, high: u32) -> Result<u32, ReadFault>
-        ensures { Gives result self.new (next_number low high self.old) }
+        ensures read { Gives result self.new (next_number low high self.old) }
+        ensures range { IfOk result (λ x. (low ≤ x) × (x ≤ high)) }
     {
         let index = self.tokens.count() + 1;
         match self.tokens.next() {
@@ -54,6 +55,18 @@ impl<'a> Places<'a> {
         match self.tokens.next() {
             None => Err(ReadFault::Short { index }),
             Some(token) => limit_of(&self.text[token.start..token.end], index),
+        }
+    }
+
+    #[tactic(auto, unfolding(packing_laws::specs::Places::caps_word))]
+    /// Whether the word `caps` follows, or else the end of the text.
+    pub fn caps_word(&mut self) -> Result<bool, ReadFault>
+        ensures { Gives result self.new (caps_word self.old) }
+    {
+        match self.tokens.next() {
+            None => Ok(false),
+            Some(token) if &self.text[token.start..token.end] == b"caps".as_slice() => Ok(true),
+            Some(token) => Err(ReadFault::Extra { index: token.index }),
         }
     }
 
@@ -77,7 +90,8 @@ impl<'a> Places<'a> {
 }
 
 fn value_of(token: &[u8], index: u64, low: u32, high: u32) -> Result<u32, ReadFault>
-    ensures { result ≡ value_in low high index token.now }
+    ensures value { result ≡ value_in low high index token.now }
+    ensures range { IfOk result (λ x. (low ≤ x) × (x ≤ high)) }
 {
     if !is_digits(token) {
         return Err(ReadFault::NotNumber { index });

@@ -1,5 +1,5 @@
 use super::*;
-use packing_laws::ReadFault;
+use packing_laws::{ItemCap, ReadFault};
 use std::test::Fail;
 
 #[test]
@@ -30,5 +30,20 @@ fn a_vector_may_be_all_zeros(rt: HostRuntime) -> Result<(), Fail> {
     let zeros = vector(rt.alloc(), &mut places, 2)?;
     assert_eq!(rt; zeros.as_slice(), [0, 0].as_slice());
     assert_eq!(rt; places.number(1, 4)?, 4);
+    Ok(())
+}
+
+#[test]
+fn caps_are_walked(rt: HostRuntime) -> Result<(), Fail> {
+    let listed = caps(rt.alloc(), &mut Places::new(b"caps 2 1 7 3 9"), 30, 3)?;
+    let expected = [ItemCap { item: 1, count: 7 }, ItemCap { item: 3, count: 9 }];
+    assert_eq!(rt; listed.as_slice(), expected.as_slice());
+    let none = caps(rt.alloc(), &mut Places::new(b" \n"), 32, 3)?;
+    assert!(rt; none.is_empty());
+    let past_32 = caps(rt.alloc(), &mut Places::new(b"caps 2 1 7 3 9"), 31, 3);
+    assert_eq!(rt; past_32.err(), Some(ReadFault::Range { index: 2 }));
+    assert_eq!(rt; Places::new(b"caps").caps_word(), Ok(true));
+    let other = Places::new(b"Caps").caps_word();
+    assert_eq!(rt; other, Err(ReadFault::Extra { index: 1 }));
     Ok(())
 }

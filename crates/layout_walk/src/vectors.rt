@@ -14,13 +14,7 @@ pub fn vector(alloc: Global, places: &mut Places, dims: u32) -> Result<Numbers, 
 {
     let mut list = Vec::new(alloc);
     for _d in 0..dims {
-        let component = match places.number(0, MAX_VALUE) {
-            Ok(component) => component,
-            Err(fault) => return Err(fault),
-        };
-        if list.push(component).is_err() {
-            return Err(ReadFault::Memory);
-        }
+        list.push(places.number(0, MAX_VALUE)?)?;
     }
     Ok(Numbers::new(list))
 }

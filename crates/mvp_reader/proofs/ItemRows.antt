@@ -1,5 +1,5 @@
 -- A type and an item are read exactly where their tokens spell their rows.
-use Rattle.std.proofs.Common.{◌≡◌, ℕ, ◌+◌, ◌≤◌, false, cond, List, [], ◌∷◌, ◌++◌, length, Option, Some, Result, Ok, Err, refl, sym, ap, ◌∙◌, subst, append_assoc, append-nil, arith}
+use Rattle.std.proofs.Common.{◌≡◌, ℕ, ◌+◌, ◌≤◌, false, cond, List, [], ◌∷◌, ◌++◌, length, Option, Result, Ok, Err, refl, sym, ap, ◌∙◌, subst, append_assoc, append-nil, arith}
 use Rattle.std.specs.Prelude.{nat_lt}
 use Rattle.std.specs.List.{All, flat_map}
 use Rattle.std.proofs.lemmas.List.Sums.{sum_by-append, sum_by-cons}
@@ -11,7 +11,7 @@ use Rattle.packing_laws.specs.declared.instances.BinType.{BinType}
 use Rattle.packing_laws.specs.declared.instances.Item.{Item}
 use Rattle.packing_laws.specs.Instances.{IsItem, IsForm, IsBinType}
 use Rattle.packing_laws.specs.Places.{Place, ◌>>=◌, next_number, next_limit, next_vector, several}
-use Rattle.packing_laws.specs.Layouts.{forms_of, vector_row, item_row, type_row, next_form_count, form_behind, next_item, item_behind, next_type, type_behind}
+use Rattle.packing_laws.specs.Layouts.{Number, limit_field, forms_of, vector_row, item_row, type_row, next_form_count, form_behind, next_item, item_behind, next_type, type_behind}
 use Rattle.layout_walk.proofs.Rows.{Passes, Passes-join, Passes-split, IsExact, EachLawful, several-exact, each-All, All-each, chosen, read_both, both_read, same_value, same_place}
 use Rattle.layout_walk.proofs.Numerals.{number-exact, limit-exact, vector-exact, form-exact}
 use Rattle.mvp_reader.proofs.Steps.{forms_of-push}
@@ -41,15 +41,15 @@ type_sound n p x q h =
     let cost_part = (number-exact 0 MAX_VALUE).sound cap.1 cost.0 cost.1 b.1.0 in
     let limit_part = limit-exact.sound cost.1 limit.0 limit.1 d.1.0 in
     let lawful : IsBinType n made = record { capacity = cap_part.0; cost = cost_part.0.1; limit = limit_part.0 } in
-    let tail = Passes-join cap.1 (Some cost.0 ∷ []) (limit.0 ∷ []) cost.1 limit.1 cost_part.1 limit_part.1 in
-    let passed = Passes-join p (vector_row cap.0) (Some cost.0 ∷ limit.0 ∷ []) cap.1 limit.1 cap_part.1 tail in
+    let tail = Passes-join cap.1 (Number cost.0 ∷ []) (limit_field limit.0 ∷ []) cost.1 limit.1 cost_part.1 limit_part.1 in
+    let passed = Passes-join p (vector_row cap.0) (Number cost.0 ∷ limit_field limit.0 ∷ []) cap.1 limit.1 cap_part.1 tail in
     subst (λ (z : BinType). IsBinType n z × Passes p (type_row z) q) value (lawful, subst (λ (z : Place). Passes p (type_row made) z) place passed)
 
 type_complete : (n : ℕ) (p : Place) (x : BinType) (q : Place) → IsBinType n x → Passes p (type_row x) q → next_type n p ≡ Ok (x, q)
 unfolding next_type
 type_complete n p x q l h =
-    let a = Passes-split p (vector_row x.cap) (Some x.cost ∷ x.limit ∷ []) q h in
-    let b = Passes-split a.0 (Some x.cost ∷ []) (x.limit ∷ []) q a.1.1 in
+    let a = Passes-split p (vector_row x.cap) (Number x.cost ∷ limit_field x.limit ∷ []) q h in
+    let b = Passes-split a.0 (Number x.cost ∷ []) (limit_field x.limit ∷ []) q a.1.1 in
     let cap = (vector-exact n).complete p x.cap a.0 l.capacity a.1.0 in
     let cost = (number-exact 0 MAX_VALUE).complete a.0 x.cost b.0 (omega arith, l.cost) b.1.0 in
     let limit = limit-exact.complete b.0 x.limit q l.limit b.1.1 in
@@ -79,7 +79,7 @@ within n h = grind arith
 not_over : (n : ℕ) → n ≤ MAX_ALL_FORMS → nat_lt MAX_ALL_FORMS n ≡ false
 not_over n h = grind arith
 
-pub count-exact : (before : ℕ) → IsExact (next_form_count before) (λ (n : ℕ). Some n ∷ []) (IsFormCount before)
+pub count-exact : (before : ℕ) → IsExact (next_form_count before) (λ (n : ℕ). Number n ∷ []) (IsFormCount before)
 unfolding next_form_count
 count-exact before = record {
   sound = λ p x q h.
@@ -127,16 +127,16 @@ item_sound n item before p x q h =
     let vs_part = (forms-exact n item count.0).sound b.1 vs.0 vs.1 e.1.0 in
     let as_many : length vs.0 ≡ count.0 = vs_part.0.0 in
     let lawful : IsItemBehind n before made = (record { demand = b_part.0.1; form_count = subst (λ (z : ℕ). (1 ≤ z) × (z ≤ MAX_FORMS)) (sym as_many) count_part.0.0; forms = each-All (IsForm n) [] vs.0 vs_part.0.1 }, subst (λ (z : ℕ). before + z ≤ MAX_ALL_FORMS) (sym as_many) count_part.0.1) in
-    let first = subst (λ (z : ℕ). Passes p (Some z ∷ []) count.1) (sym as_many) count_part.1 in
-    let tail = Passes-join count.1 (Some b.0 ∷ []) (flat_map vector_row vs.0) b.1 vs.1 b_part.1 vs_part.1 in
-    let passed = Passes-join p (Some (length vs.0) ∷ []) (Some b.0 ∷ flat_map vector_row vs.0) count.1 vs.1 first tail in
+    let first = subst (λ (z : ℕ). Passes p (Number z ∷ []) count.1) (sym as_many) count_part.1 in
+    let tail = Passes-join count.1 (Number b.0 ∷ []) (flat_map vector_row vs.0) b.1 vs.1 b_part.1 vs_part.1 in
+    let passed = Passes-join p (Number (length vs.0) ∷ []) (Number b.0 ∷ flat_map vector_row vs.0) count.1 vs.1 first tail in
     subst (λ (z : Item). IsItemBehind n before z × Passes p (item_row z) q) value (lawful, subst (λ (z : Place). Passes p (item_row made) z) place passed)
 
 item_complete : (n item before : ℕ) (p : Place) (x : Item) (q : Place) → IsItemBehind n before x → Passes p (item_row x) q → next_item n item before p ≡ Ok (x, q)
 unfolding next_item
 item_complete n item before p x q l h =
-    let a = Passes-split p (Some (length x.forms) ∷ []) (Some x.demand ∷ flat_map vector_row x.forms) q h in
-    let b = Passes-split a.0 (Some x.demand ∷ []) (flat_map vector_row x.forms) q a.1.1 in
+    let a = Passes-split p (Number (length x.forms) ∷ []) (Number x.demand ∷ flat_map vector_row x.forms) q h in
+    let b = Passes-split a.0 (Number x.demand ∷ []) (flat_map vector_row x.forms) q a.1.1 in
     let count = (count-exact before).complete p (length x.forms) a.0 (l.0.form_count, l.1) a.1.0 in
     let demand = (number-exact 0 MAX_DEMAND).complete a.0 x.demand b.0 (omega arith, l.0.demand) b.1.0 in
     let forms = (forms-exact n item (length x.forms)).complete b.0 x.forms q (refl, All-each (IsForm n) [] x.forms l.0.forms) b.1.1 in
@@ -150,11 +150,12 @@ item-exact n item before = record {
   complete = λ p x q l h. item_complete n item before p x q l h;
 }
 
+-- the same behind these items
 abbrev pub LawfulBehind : ℕ → List Item → Item → Type 0
 LawfulBehind n xs x = IsItemBehind n (forms_of xs) x
 
-pub items-exact : (n count : ℕ) → IsExact (several count (item_behind n) []) (flat_map item_row) (λ (xs : List Item). (length xs ≡ count) × EachLawful (LawfulBehind n) [] xs)
-items-exact n count = several-exact (item_behind n) item_row (LawfulBehind n) (λ xs. item-exact n (length xs + 1) (forms_of xs)) count
+pub items-exact : (n : ℕ) (xs : List Item) → IsExact (item_behind n xs) item_row (LawfulBehind n xs)
+items-exact n xs = item-exact n (length xs + 1) (forms_of xs)
 
 -- items that are lawful in view of those before them are lawful together
 together : (n : ℕ) (xs ys : List Item) → forms_of xs ≤ MAX_ALL_FORMS → EachLawful (LawfulBehind n) xs ys → All (IsItem n) ys × (forms_of (xs ++ ys) ≤ MAX_ALL_FORMS)

@@ -1,14 +1,15 @@
 -- Want of memory is no bad place.
 use Rattle.std.proofs.Common.{ℕ, ◌+◌, List, [], Option, Ok, length}
 use Rattle.std.specs.Prelude.{nat_lt}
-use Rattle.arc_num.specs.declared.TheConstants.{MAX_DIMS, MAX_TYPES, MAX_ITEMS, MAX_DEMAND, MAX_FORMS, MAX_ALL_FORMS, MAX_VALUE}
+use Rattle.arc_num.specs.declared.TheConstants.{MAX_DIMS, MAX_TYPES, MAX_DEMAND, MAX_FORMS, MAX_ALL_FORMS, MAX_VALUE}
 use Rattle.packing_laws.specs.declared.fault.ReadFault.{ReadFault}
 use Rattle.packing_laws.specs.declared.fault.ReadFault.TheVariants.{Short, NotNumber, Range, Total, ZeroWeight, Extra, Memory}
-use Rattle.packing_laws.specs.Places.{Place, next_number, next_limit, next_vector, next_form, several, end_at}
+use Rattle.packing_laws.specs.Places.{Place, next_number, next_limit, next_vector, next_form, several}
 use Rattle.packing_laws.specs.Layouts.{forms_of, next_form_count, form_behind, next_item, item_behind, next_type, type_behind, instance_at}
-use Rattle.layout_walk.proofs.Faults.{FaultsAre, faults-then, faults-none, faults-if, faults-number, faults-limit, faults-vector, faults-form, faults-several, faults-end}
+use Rattle.layout_walk.proofs.Faults.{FaultsAre, faults-then, faults-none, faults-if, faults-number, faults-limit, faults-vector, faults-form, faults-several}
+use Rattle.layout_walk.proofs.ItemTails.{tail_faults}
 use Rattle.mvp_reader.proofs.ItemRows.{type_of, after_capacity, after_cost, after_count, item_of, after_demand, after_forms}
-use Rattle.mvp_reader.proofs.InstanceRows.{Made, after_items, after_item_count, after_types, after_type_count, after_dims}
+use Rattle.mvp_reader.proofs.InstanceRows.{Made, after_types, after_type_count, after_dims}
 
 -- a fault of a text
 abbrev pub IsTextFault : ReadFault → Type 0
@@ -54,6 +55,4 @@ instance_faults p =
     faults-then IsTextFault (next_number 1 MAX_DIMS p) after_dims (number_faults 1 MAX_DIMS p)
     (λ n. faults-then IsTextFault (next_number 1 MAX_TYPES n.1) (after_type_count n.0) (number_faults 1 MAX_TYPES n.1)
     (λ k. faults-then IsTextFault (several k.0 (type_behind n.0) [] k.1) (after_types n.0) (faults-several IsTextFault (type_behind n.0) (λ ts q. type_faults n.0 q) k.0 [] k.1)
-    (λ ts. faults-then IsTextFault (next_number 0 MAX_ITEMS ts.1) (after_item_count n.0 ts.0) (number_faults 0 MAX_ITEMS ts.1)
-    (λ m. faults-then IsTextFault (several m.0 (item_behind n.0) [] m.1) (after_items n.0 ts.0) (faults-several IsTextFault (item_behind n.0) (λ xs q. item_faults n.0 (length xs + 1) (forms_of xs) q) m.0 [] m.1)
-    (λ xs. faults-then IsTextFault (end_at xs.1) (λ (_ : Unit {0}). Ok (Made n.0 ts.0 xs.0)) (faults-end IsTextFault (λ k. tt) xs.1) (λ _. faults-none IsTextFault (Made n.0 ts.0 xs.0)))))))
+    (λ ts. tail_faults (item_behind n.0) n.0 (Made n.0 ts.0) IsTextFault (λ k. tt) (λ k. tt) (λ k. tt) (λ k. tt) (λ xs q. item_faults n.0 (length xs + 1) (forms_of xs) q) ts.1)))

@@ -8,13 +8,13 @@ ghost use Rattle.packing_laws.specs.Layouts.{Layout, Mvp, Reads, BadPlace, readi
 use arc_num::{
     MAX_ALL_FORMS, MAX_DEMAND, MAX_DIMS, MAX_FORMS, MAX_INSTANCE, MAX_ITEMS, MAX_TYPES, MAX_VALUE,
 };
-use layout_walk::{Parts, Places, form, vector};
+use layout_walk::{Parts, Places, caps, form, vector};
 use packing_laws::{BinType, Instance, Item, ReadFault, Vectors};
 use std::alloc::Global;
 
 mod laws;
 
-pub use laws::{a_text_reads_as_its_row, memory_is_no_place, rows_are_worked};
+pub use laws::{a_text_reads_as_its_row, examples_come_out, memory_is_no_place};
 
 /// The instance that the text spells, or its first bad place.
 pub fn read_mvp(alloc: Global, text: &[u8]) -> Result<Instance, ReadFault>
@@ -22,11 +22,8 @@ pub fn read_mvp(alloc: Global, text: &[u8]) -> Result<Instance, ReadFault>
     ensures read { IfOk result (λ I. Reads Mvp text.now I) }
     ensures fault { IfErr result (λ e. (e ≡ ReadFault.Memory) ⊎ BadPlace Mvp text.now e) }
 {
-    let mut places = Places::new(text);
-    match read_parts(alloc, &mut places) {
-        Ok(parts) => Ok(parts.into_instance()),
-        Err(fault) => Err(fault),
-    }
+    let parts = read_parts(alloc, &mut Places::new(text))?;
+    Ok(parts.into_instance())
 }
 
 #[tactic(auto, unfolding(packing_laws::specs::Layouts::instance_at))]
@@ -38,8 +35,8 @@ fn read_parts(alloc: Global, places: &mut Places) -> Result<Parts, ReadFault>
     let types = read_types(alloc, places, dims, type_count)?;
     let item_count = places.number(0, MAX_ITEMS)?;
     let items = read_items(alloc, places, dims, item_count)?;
-    places.end()?;
-    Ok(Parts::new(dims, types, items))
+    let caps = caps(alloc, places, dims, item_count)?;
+    Ok(Parts::new(dims, types, items, caps))
 }
 
 #[tactic(auto, using(layout_walk::proofs::Repeats::repeats))]
@@ -54,13 +51,7 @@ fn read_types(
 {
     let mut types = Vec::new(alloc);
     for _t in 0..count {
-        let bin_type = match read_type(alloc, places, dims) {
-            Ok(bin_type) => bin_type,
-            Err(fault) => return Err(fault),
-        };
-        if types.push(bin_type).is_err() {
-            return Err(ReadFault::Memory);
-        }
+        types.push(read_type(alloc, places, dims)?)?;
     }
     Ok(types)
 }
@@ -88,14 +79,9 @@ fn read_items(
     let mut items = Vec::new(alloc);
     let mut forms = 0;
     for i in 0..count {
-        let item = match read_item(alloc, places, dims, i + 1, forms) {
-            Ok(item) => item,
-            Err(fault) => return Err(fault),
-        };
+        let item = read_item(alloc, places, dims, i + 1, forms)?;
         forms += item.forms.as_slice().len() as u32;
-        if items.push(item).is_err() {
-            return Err(ReadFault::Memory);
-        }
+        items.push(item)?;
     }
     Ok(items)
 }
@@ -147,13 +133,7 @@ fn read_forms(
 {
     let mut forms = Vec::new(alloc);
     for f in 0..count {
-        let weights = match form(alloc, places, dims, item, f + 1) {
-            Ok(weights) => weights,
-            Err(fault) => return Err(fault),
-        };
-        if forms.push(weights).is_err() {
-            return Err(ReadFault::Memory);
-        }
+        forms.push(form(alloc, places, dims, item, f + 1)?)?;
     }
     Ok(Vectors::new(forms))
 }

@@ -1,4 +1,5 @@
 use super::*;
+use ReadFault::{Extra, NotNumber, Range, Short, Total, ZeroWeight};
 use std::alloc::AllocError;
 use std::test::Fail;
 
@@ -12,22 +13,18 @@ fn fault_of(alloc: Global, text: &[u8]) -> Option<ReadFault> {
     }
 }
 
-// One type without limit, and so many items of 64 forms each, of 126 that are to come.
-fn items_of_64_forms(alloc: Global, items: u32) -> Result<Vec<u8>, AllocError> {
-    let mut text = Vec::from_slice(alloc, b"1 1 10 1 -1 126\n")?;
-    for _item in 0..items {
-        text.extend_from_slice(b"64 1")?;
-        for _form in 0..64 {
-            text.extend_from_slice(b" 1")?;
-        }
-        text.extend_from_slice(b"\n")?;
+// The same bytes so many times behind others.
+fn repeated(alloc: Global, front: &[u8], part: &[u8], times: u32) -> Result<Vec<u8>, AllocError> {
+    let mut text = Vec::from_slice(alloc, front)?;
+    for _time in 0..times {
+        text.extend_from_slice(part)?;
     }
     Ok(text)
 }
 
 #[test]
 fn a_text_reads(rt: HostRuntime) -> Result<(), Fail> {
-    let text = b"2 2\n10 5 4 2\n0 7 0 -1\n1\n2 3 6 0 0 2\n";
+    let text = b"2 2\n10 5 4 2\n0 7 0 -1\n1\n2 3 6 0 0 2\ncaps 1 1 2\n";
     prove!(text.len() <= MAX_INSTANCE);
     let instance = read_mvp(rt.alloc(), text)?;
     assert_eq!(rt;
@@ -39,65 +36,106 @@ fn a_text_reads(rt: HostRuntime) -> Result<(), Fail> {
         (2, 2, 1)
     );
     assert_eq!(rt; instance.units(), 3);
+    assert_eq!(rt; instance.cap_of(1), Some(2));
     a_text_reads_as_its_row();
     memory_is_no_place();
-    rows_are_worked();
+    examples_come_out();
     Ok(())
 }
 
 #[test]
-fn bad_places_are_named(rt: HostRuntime) {
-    assert_eq!(rt;
-        fault_of(rt.alloc(), b""),
-        Some(ReadFault::Short { index: 1 })
-    );
-    assert_eq!(rt;
-        fault_of(rt.alloc(), b"1 0"),
-        Some(ReadFault::Range { index: 2 })
-    );
-    assert_eq!(rt;
-        fault_of(rt.alloc(), b"1 1 5 -1"),
-        Some(ReadFault::NotNumber { index: 4 })
-    );
-    assert_eq!(rt;
-        fault_of(rt.alloc(), b"1 1 2 -1 -1 1 1 3 1"),
-        Some(ReadFault::NotNumber { index: 4 })
-    );
-    assert_eq!(rt;
-        fault_of(rt.alloc(), b"1 1 5 1 -1 1 0 1"),
-        Some(ReadFault::Range { index: 7 })
-    );
-    assert_eq!(rt;
-        fault_of(rt.alloc(), b"1 1 5 1 -1 1 65"),
-        Some(ReadFault::Range { index: 7 })
-    );
-    let zero = ReadFault::ZeroWeight {
+fn each_place_has_its_limits(rt: HostRuntime) {
+    let zero = ZeroWeight {
         index: 13,
         item: 1,
         form: 2,
     };
+    let rows = [
+        ("", Some(Short { index: 1 })),
+        ("33", Some(Range { index: 1 })),
+        ("1 0", Some(Range { index: 2 })),
+        ("1 65", Some(Range { index: 2 })),
+        ("1 1 2147483647 2147483647 2147483647 0", None),
+        ("1 1 2147483648", Some(Range { index: 3 })),
+        ("1 1 5 2147483648", Some(Range { index: 4 })),
+        ("1 1 5 -1", Some(NotNumber { index: 4 })),
+        ("1 1 5 1 2147483648", Some(Range { index: 5 })),
+        ("1 1 5 1 -1 1001", Some(Range { index: 6 })),
+        ("1 1 5 1 -1 1 0 1", Some(Range { index: 7 })),
+        ("1 1 5 1 -1 1 65", Some(Range { index: 7 })),
+        ("1 1 5 1 -1 1 1 1000001", Some(Range { index: 8 })),
+        ("2 1 5 5 1 -1 1 2 1 1 0 0 0", Some(zero)),
+        ("1 1 2 3 -1 1 1 1000000 2147483647", None),
+        ("1 1 2 3 -1 1 1 3 1 1", Some(Extra { index: 10 })),
+    ];
+    for (text, fault) in rows {
+        assert_eq!(rt; fault_of(rt.alloc(), text.as_bytes()), fault);
+    }
+}
+
+#[test]
+fn caps_have_their_places(rt: HostRuntime) {
+    let rows = [
+        ("1 1 2 3 -1 1 1 3 1 caps 1 1 1000000", None),
+        ("1 1 2 3 -1 1 1 3 1 caps", Some(Short { index: 11 })),
+        ("1 1 2 3 -1 1 1 3 1 caps 2", Some(Range { index: 11 })),
+        ("1 1 2 3 -1 1 1 3 1 caps 1 1 0", Some(Range { index: 13 })),
+        (
+            "1 1 2 3 -1 1 1 3 1 caps 1 1 1000001",
+            Some(Range { index: 13 }),
+        ),
+        (
+            "1 1 2 3 -1 1 1 3 1 caps 1 1 -1",
+            Some(NotNumber { index: 13 }),
+        ),
+        ("1 1 2 3 -1 1 1 3 1 Caps 1 1 2", Some(Extra { index: 10 })),
+        ("1 1 2 3 -1 1 1 3 1 caps 0", None),
+        ("1 1 2 3 -1 1 1 3 1 caps 0 5", Some(Extra { index: 12 })),
+        (
+            "1 1 2 3 -1 2 1 3 1 1 3 1 caps 2 2 1 1 1",
+            Some(Range { index: 17 }),
+        ),
+    ];
+    for (text, fault) in rows {
+        assert_eq!(rt; fault_of(rt.alloc(), text.as_bytes()), fault);
+    }
+}
+
+#[test]
+fn dimensions_and_caps_are_at_most_32(rt: HostRuntime) {
+    let in_32 =
+        "32 1 7 1 1 1 1 1 1 1 1 1 1 1 1 1 1 1 1 1 1 1 1 1 1 1 1 1 1 1 1 1 1 1 3 -1 0 caps 0";
+    assert_eq!(rt; fault_of(rt.alloc(), in_32.as_bytes()), None);
+    let two_in_31 =
+        "31 1 1 1 1 1 1 1 1 1 1 1 1 1 1 1 1 1 1 1 1 1 1 1 1 1 1 1 1 1 1 1 1 3 -1 2 1 1 1 1 1 1 1 1 1 1 1 1 1 1 1 1 1 1 1 1 1 1 1 1 1 1 1 1 1 1 1 1 1 1 1 1 1 1 1 1 1 1 1 1 1 1 1 1 1 1 1 1 1 1 1 1 1 1 1 1 1 1 1 1 1 1 caps 2 1 1 2 1";
     assert_eq!(rt;
-        fault_of(rt.alloc(), b"2 1 5 5 1 -1 1 2 1 1 0 0 0"),
-        Some(zero)
-    );
-    assert_eq!(rt; fault_of(rt.alloc(), b"1 1 2 3 -1 1 1 3 1"), None);
-    assert_eq!(rt;
-        fault_of(rt.alloc(), b"1 1 2 3 -1 1 1 3 1 1"),
-        Some(ReadFault::Extra { index: 10 })
+        fault_of(rt.alloc(), two_in_31.as_bytes()),
+        Some(Range { index: 104 })
     );
 }
 
 #[test]
+fn so_many_types_and_items_read(rt: HostRuntime) -> Result<(), Fail> {
+    let mut types = repeated(rt.alloc(), b"1 64", b" 5 1 -1", 64)?;
+    types.extend_from_slice(b" 0")?;
+    assert_eq!(rt; fault_of(rt.alloc(), types.as_slice()), None);
+    let items = repeated(rt.alloc(), b"1 1 5 1 -1 1000", b" 1 1 1", 1_000)?;
+    assert_eq!(rt; fault_of(rt.alloc(), items.as_slice()), None);
+    Ok(())
+}
+
+#[test]
 fn forms_are_counted_over_all_items(rt: HostRuntime) -> Result<(), Fail> {
-    let mut text = items_of_64_forms(rt.alloc(), 125)?;
+    let item = repeated(rt.alloc(), b" 64 1", b" 1", 64)?;
+    let mut text = repeated(rt.alloc(), b"1 1 10 1 -1 126", item.as_slice(), 125)?;
     assert_eq!(rt;
         fault_of(rt.alloc(), text.as_slice()),
-        Some(ReadFault::Short { index: 8_257 })
+        Some(Short { index: 8_257 })
     );
-    text.extend_from_slice(b"1 1 1")?;
+    text.extend_from_slice(b" 1 1 1")?;
     assert_eq!(rt;
         fault_of(rt.alloc(), text.as_slice()),
-        Some(ReadFault::Total { index: 8_257 })
+        Some(Total { index: 8_257 })
     );
     Ok(())
 }

@@ -1,12 +1,13 @@
 -- No text of one type has too many forms, and want of memory is no bad place.
-use Rattle.std.proofs.Common.{ℕ, ◌+◌, [], Ok, length}
-use Rattle.arc_num.specs.declared.TheConstants.{MAX_DIMS, MAX_ITEMS, MAX_DEMAND}
+use Rattle.std.proofs.Common.{ℕ, ◌+◌, Ok, length}
+use Rattle.arc_num.specs.declared.TheConstants.{MAX_DIMS, MAX_DEMAND}
 use Rattle.packing_laws.specs.declared.fault.ReadFault.{ReadFault}
 use Rattle.packing_laws.specs.declared.fault.ReadFault.TheVariants.{Short, NotNumber, Range, Total, ZeroWeight, Extra, Memory}
-use Rattle.packing_laws.specs.Places.{Place, next_number, next_vector, next_form, several, end_at}
+use Rattle.packing_laws.specs.Places.{Place, next_number, next_vector, next_form}
 use Rattle.packing_laws.specs.Layouts.{next_plain_item, plain_item_behind, plain_instance_at}
-use Rattle.layout_walk.proofs.Faults.{FaultsAre, faults-then, faults-none, faults-number, faults-vector, faults-form, faults-several, faults-end}
-use Rattle.vbp_reader.proofs.PlainRows.{item_of, Plain, after_form, after_items, after_count, after_capacity, after_dims}
+use Rattle.layout_walk.proofs.Faults.{FaultsAre, faults-then, faults-none, faults-number, faults-vector, faults-form}
+use Rattle.layout_walk.proofs.ItemTails.{tail_faults}
+use Rattle.vbp_reader.proofs.PlainRows.{item_of, Plain, after_form, after_capacity, after_dims}
 
 -- a fault of a text of one type
 abbrev pub IsPlainFault : ReadFault → Type 0
@@ -32,6 +33,4 @@ unfolding plain_instance_at
 instance_faults p =
     faults-then IsPlainFault (next_number 1 MAX_DIMS p) after_dims (number_faults 1 MAX_DIMS p)
     (λ n. faults-then IsPlainFault (next_vector n.0 n.1) (after_capacity n.0) (faults-vector IsPlainFault (λ k. tt) (λ k. tt) (λ k. tt) n.0 n.1)
-    (λ cap. faults-then IsPlainFault (next_number 0 MAX_ITEMS cap.1) (after_count n.0 cap.0) (number_faults 0 MAX_ITEMS cap.1)
-    (λ m. faults-then IsPlainFault (several m.0 (plain_item_behind n.0) [] m.1) (after_items n.0 cap.0) (faults-several IsPlainFault (plain_item_behind n.0) (λ xs q. item_faults n.0 (length xs + 1) q) m.0 [] m.1)
-    (λ xs. faults-then IsPlainFault (end_at xs.1) (λ (_ : Unit {0}). Ok (Plain n.0 cap.0 xs.0)) (faults-end IsPlainFault (λ k. tt) xs.1) (λ _. faults-none IsPlainFault (Plain n.0 cap.0 xs.0))))))
+    (λ cap. tail_faults (plain_item_behind n.0) n.0 (Plain n.0 cap.0) IsPlainFault (λ k. tt) (λ k. tt) (λ k. tt) (λ k. tt) (λ xs q. item_faults n.0 (length xs + 1) q) cap.1))

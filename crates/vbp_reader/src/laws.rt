@@ -1,7 +1,7 @@
 //! Laws of the layout, as the contracts of functions that do nothing.
 
 ghost use Rattle.packing_laws.specs.Layouts.{Vbp, ReadsItsRow, ReadsItsNumbers, MemoryIsNoPlace};
-ghost use Rattle.vbp_reader.specs.Worked.{Rows};
+ghost use Rattle.vbp_reader.specs.Examples.{ExamplesComeOut};
 
 /// A text reads as an instance exactly where its tokens are the row of fields of this instance.
 pub fn a_text_reads_as_its_row()
@@ -19,7 +19,7 @@ pub fn memory_is_no_place()
     ensures { MemoryIsNoPlace Vbp }
 {}
 
-/// Texts that are worked by hand.
-pub fn rows_are_worked()
-    ensures { Rows }
+/// What texts read as that are worked by hand, and their first bad places.
+pub fn examples_come_out()
+    ensures { ExamplesComeOut }
 {}

@@ -6,14 +6,14 @@ ghost use Rattle.packing_laws.specs.Places.{Place, several, GivesOrMemory, Answe
 ghost use Rattle.packing_laws.specs.Layouts.{Layout, Vbp, Reads, BadPlace, reading_of, next_plain_item, plain_item_behind, plain_instance_at};
 
 use arc_num::{MAX_DEMAND, MAX_DIMS, MAX_INSTANCE, MAX_ITEMS};
-use layout_walk::{Parts, Places, form, vector};
+use layout_walk::{Parts, Places, caps, form, vector};
 use packing_laws::{BinType, Instance, Item, Numbers, ReadFault, Vectors};
 use std::alloc::Global;
 
 mod laws;
 
 pub use laws::{
-    a_text_reads_as_its_numbers, a_text_reads_as_its_row, memory_is_no_place, rows_are_worked,
+    a_text_reads_as_its_numbers, a_text_reads_as_its_row, examples_come_out, memory_is_no_place,
 };
 
 /// The instance that the text spells, or its first bad place.
@@ -23,11 +23,8 @@ pub fn read_vbp(alloc: Global, text: &[u8]) -> Result<Instance, ReadFault>
     ensures fault { IfErr result (λ e. (e ≡ ReadFault.Memory) ⊎ BadPlace Vbp text.now e) }
     ensures total { (k : ℕ) → result ≢ Err (ReadFault.Total k) }
 {
-    let mut places = Places::new(text);
-    match read_parts(alloc, &mut places) {
-        Ok(parts) => Ok(parts.into_instance()),
-        Err(fault) => Err(fault),
-    }
+    let parts = read_parts(alloc, &mut Places::new(text))?;
+    Ok(parts.into_instance())
 }
 
 #[tactic(auto, unfolding(packing_laws::specs::Layouts::plain_instance_at))]
@@ -38,17 +35,13 @@ fn read_parts(alloc: Global, places: &mut Places) -> Result<Parts, ReadFault>
     let cap = vector(alloc, places, dims)?;
     let count = places.number(0, MAX_ITEMS)?;
     let items = read_items(alloc, places, dims, count)?;
-    places.end()?;
-    match vec![in alloc;
-        BinType {
-            cap,
-            cost: 1,
-            limit: None
-        },
-    ] {
-        Ok(types) => Ok(Parts::new(dims, types, items)),
-        Err(_) => Err(ReadFault::Memory),
-    }
+    let caps = caps(alloc, places, dims, count)?;
+    let bin_type = BinType {
+        cap,
+        cost: 1,
+        limit: None,
+    };
+    Ok(Parts::new(dims, vec![in alloc; bin_type]?, items, caps))
 }
 
 #[tactic(auto, using(layout_walk::proofs::Repeats::repeats))]
@@ -63,13 +56,7 @@ fn read_items(
 {
     let mut items = Vec::new(alloc);
     for i in 0..count {
-        let item = match read_item(alloc, places, dims, i + 1) {
-            Ok(item) => item,
-            Err(fault) => return Err(fault),
-        };
-        if items.push(item).is_err() {
-            return Err(ReadFault::Memory);
-        }
+        items.push(read_item(alloc, places, dims, i + 1)?)?;
     }
     Ok(items)
 }
@@ -80,13 +67,8 @@ fn read_item(alloc: Global, places: &mut Places, dims: u32, item: u32) -> Result
 {
     let weights = form(alloc, places, dims, item, 1)?;
     let demand = places.number(0, MAX_DEMAND)?;
-    match vec![in alloc; weights] {
-        Ok(forms) => Ok(Item {
-            demand,
-            forms: Vectors::new(forms),
-        }),
-        Err(_) => Err(ReadFault::Memory),
-    }
+    let forms = Vectors::new(vec![in alloc; weights]?);
+    Ok(Item { demand, forms })
 }
 
 #[cfg(test)]

@@ -1,4 +1,6 @@
 use super::*;
+use ReadFault::{Extra, NotNumber, Range, Short, ZeroWeight};
+use std::alloc::AllocError;
 use std::test::Fail;
 
 fn fault_of(alloc: Global, text: &[u8]) -> Option<ReadFault> {
@@ -11,9 +13,18 @@ fn fault_of(alloc: Global, text: &[u8]) -> Option<ReadFault> {
     }
 }
 
+// One dimension, and so many items of one unit.
+fn units(alloc: Global, count: u32) -> Result<Vec<u8>, AllocError> {
+    let mut text = Vec::from_slice(alloc, b"1 10 1000")?;
+    for _item in 0..count {
+        text.extend_from_slice(b" 1 1")?;
+    }
+    Ok(text)
+}
+
 #[test]
 fn a_text_reads(rt: HostRuntime) -> Result<(), Fail> {
-    let text = b" 002 10 5\r\n2\t6 0 3\n0 2147483647 1000000";
+    let text = b" 002 10 5\r\n2\t6 0 3\n0 2147483647 1000000\ncaps 1 2 7";
     prove!(text.len() <= MAX_INSTANCE);
     let instance = read_vbp(rt.alloc(), text)?;
     assert_eq!(rt;
@@ -25,91 +36,96 @@ fn a_text_reads(rt: HostRuntime) -> Result<(), Fail> {
         (2, 1, 2)
     );
     assert_eq!(rt; instance.units(), 1_000_003);
+    assert_eq!(rt; (instance.cap_of(1), instance.cap_of(2)), (None, Some(7)));
     a_text_reads_as_its_row();
     a_text_reads_as_its_numbers();
     memory_is_no_place();
-    rows_are_worked();
+    examples_come_out();
     Ok(())
 }
 
 #[test]
-fn each_prefix_is_short(rt: HostRuntime) {
+fn each_place_has_its_limits(rt: HostRuntime) {
+    let rows = [
+        ("", Some(Short { index: 1 })),
+        ("1 10 1 6", Some(Short { index: 5 })),
+        ("1 10 1 6 3", None),
+        ("1 10 1 6 3 7", Some(Extra { index: 6 })),
+        ("0 10 0", Some(Range { index: 1 })),
+        ("9", Some(Short { index: 2 })),
+        ("33", Some(Range { index: 1 })),
+        ("1 2147483647 1 2147483647 1000000", None),
+        ("1 2147483648 0", Some(Range { index: 2 })),
+        (
+            "1 99999999999999999999999999999999999 0",
+            Some(Range { index: 2 }),
+        ),
+        ("1 10 1001", Some(Range { index: 3 })),
+        ("1 10 1 2147483648 1", Some(Range { index: 4 })),
+        (
+            "1 10 1 0 1",
+            Some(ZeroWeight {
+                index: 4,
+                item: 1,
+                form: 1,
+            }),
+        ),
+        ("1 10 1 6 1000001", Some(Range { index: 5 })),
+        ("1 10 1 6 -1", Some(NotNumber { index: 5 })),
+        ("1 1e1 0", Some(NotNumber { index: 2 })),
+        ("0001 010 00", None),
+    ];
+    for (text, fault) in rows {
+        assert_eq!(rt; fault_of(rt.alloc(), text.as_bytes()), fault);
+    }
+}
+
+#[test]
+fn caps_have_their_places(rt: HostRuntime) {
+    let rows = [
+        ("1 10 1 2 4 caps 1 1 2", None),
+        ("1 10 1 2 4 caps", Some(Short { index: 7 })),
+        ("1 10 1 2 4 caps 2", Some(Range { index: 7 })),
+        ("1 10 1 2 4 caps 1 1 0", Some(Range { index: 9 })),
+        ("1 10 1 2 4 caps 1 1 1000000", None),
+        ("1 10 1 2 4 caps 1 1 1000001", Some(Range { index: 9 })),
+        ("1 10 1 2 4 Caps 1 1 2", Some(Extra { index: 6 })),
+        ("1 10 1 2 4 caps 0", None),
+        ("1 10 1 2 4 caps 0 5", Some(Extra { index: 8 })),
+        ("1 10 1 2 4 caps x", Some(NotNumber { index: 7 })),
+        ("1 10 2 2 4 3 4 caps 2 2 1 1 1", Some(Range { index: 12 })),
+        ("1 10 2 2 4 3 4 caps 2 1 1 2 1", None),
+    ];
+    for (text, fault) in rows {
+        assert_eq!(rt; fault_of(rt.alloc(), text.as_bytes()), fault);
+    }
+}
+
+#[test]
+fn dimensions_and_caps_are_at_most_32(rt: HostRuntime) {
+    let in_32 = "32 7 1 1 1 1 1 1 1 1 1 1 1 1 1 1 1 1 1 1 1 1 1 1 1 1 1 1 1 1 1 1 1 0 caps 0";
+    assert_eq!(rt; fault_of(rt.alloc(), in_32.as_bytes()), None);
+    let two_in_31 =
+        "31 1 1 1 1 1 1 1 1 1 1 1 1 1 1 1 1 1 1 1 1 1 1 1 1 1 1 1 1 1 1 1 2 1 1 1 1 1 1 1 1 1 1 1 1 1 1 1 1 1 1 1 1 1 1 1 1 1 1 1 1 1 1 1 1 1 1 1 1 1 1 1 1 1 1 1 1 1 1 1 1 1 1 1 1 1 1 1 1 1 1 1 1 1 1 1 1 caps 2 1 1 2 1";
     assert_eq!(rt;
-        fault_of(rt.alloc(), b""),
-        Some(ReadFault::Short { index: 1 })
-    );
-    assert_eq!(rt;
-        fault_of(rt.alloc(), b"1"),
-        Some(ReadFault::Short { index: 2 })
-    );
-    assert_eq!(rt;
-        fault_of(rt.alloc(), b"1 10"),
-        Some(ReadFault::Short { index: 3 })
-    );
-    assert_eq!(rt;
-        fault_of(rt.alloc(), b"1 10 1"),
-        Some(ReadFault::Short { index: 4 })
-    );
-    assert_eq!(rt;
-        fault_of(rt.alloc(), b"1 10 1 6"),
-        Some(ReadFault::Short { index: 5 })
-    );
-    assert_eq!(rt; fault_of(rt.alloc(), b"1 10 1 6 3"), None);
-    assert_eq!(rt;
-        fault_of(rt.alloc(), b"1 10 1 6 3 7"),
-        Some(ReadFault::Extra { index: 6 })
+        fault_of(rt.alloc(), two_in_31.as_bytes()),
+        Some(Range { index: 99 })
     );
 }
 
 #[test]
-fn bad_places_are_named(rt: HostRuntime) {
-    let zero = ReadFault::ZeroWeight {
-        index: 4,
-        item: 1,
-        form: 1,
-    };
-    assert_eq!(rt; fault_of(rt.alloc(), b"1 10 1 0 1"), Some(zero));
+fn a_thousand_items_read(rt: HostRuntime) -> Result<(), Fail> {
+    let mut text = units(rt.alloc(), 1_000)?;
+    assert_eq!(rt; fault_of(rt.alloc(), text.as_slice()), None);
+    text.extend_from_slice(b" caps 31")?;
     assert_eq!(rt;
-        fault_of(rt.alloc(), b"1 10 1 6 1000001"),
-        Some(ReadFault::Range { index: 5 })
+        fault_of(rt.alloc(), text.as_slice()),
+        Some(Short { index: 2_006 })
     );
+    text.extend_from_slice(b"1")?;
     assert_eq!(rt;
-        fault_of(rt.alloc(), b"1 10 1 6 -1"),
-        Some(ReadFault::NotNumber { index: 5 })
+        fault_of(rt.alloc(), text.as_slice()),
+        Some(Range { index: 2_005 })
     );
-    assert_eq!(rt;
-        fault_of(rt.alloc(), b"0 10 0"),
-        Some(ReadFault::Range { index: 1 })
-    );
-    assert_eq!(rt;
-        fault_of(rt.alloc(), b"9"),
-        Some(ReadFault::Range { index: 1 })
-    );
-    assert_eq!(rt;
-        fault_of(rt.alloc(), b"1 2147483648 0"),
-        Some(ReadFault::Range { index: 2 })
-    );
-    let long = b"1 99999999999999999999999999999999999999999 0";
-    assert_eq!(rt;
-        fault_of(rt.alloc(), long),
-        Some(ReadFault::Range { index: 2 })
-    );
-    assert_eq!(rt;
-        fault_of(rt.alloc(), b"+1 10 0"),
-        Some(ReadFault::NotNumber { index: 1 })
-    );
-    assert_eq!(rt;
-        fault_of(rt.alloc(), b"1 1e1 0"),
-        Some(ReadFault::NotNumber { index: 2 })
-    );
-    assert_eq!(rt;
-        fault_of(rt.alloc(), b"\xff"),
-        Some(ReadFault::NotNumber { index: 1 })
-    );
-    assert_eq!(rt;
-        fault_of(rt.alloc(), b"1 10 1001"),
-        Some(ReadFault::Range { index: 3 })
-    );
-    assert_eq!(rt; fault_of(rt.alloc(), b"0001 010 00"), None);
-    assert_eq!(rt; fault_of(rt.alloc(), b"1 2147483647 0"), None);
+    Ok(())
 }

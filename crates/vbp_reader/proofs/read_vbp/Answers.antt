@@ -1,4 +1,4 @@
-use Rattle.std.proofs.Common.{◌≡◌, ℕ, Err, ◌⊎◌, inl, inr, subst}
+use Rattle.std.proofs.Common.{rules, ◌≡◌, ℕ, Err, ◌⊎◌, inl, inr, subst}
 use Rattle.packing_laws.specs.declared.fault.ReadFault.{ReadFault}
 use Rattle.packing_laws.specs.declared.fault.ReadFault.TheVariants.{Memory, Total}
 use Rattle.packing_laws.specs.Places.{Place}
@@ -13,7 +13,7 @@ not_total p e k (inl m) same = cc
 not_total p e k (inr h) same = subst IsPlainFault same (instance_faults p e h)
 
 pub into_instance-requires : goal.into_instance-requires
-into_instance-requires c = (instance_sound c.new-places.result c.in-Ok.parts c.in-Ok.ensures).0.0
+into_instance-requires c = (instance_sound c.new.result c.in_ok-parts.parts c.in_ok-parts.ensures).0.0
 
-pub returns-in-Err-clause-total : goal.returns-in-Err-clause-total
-returns-in-Err-clause-total c = λ k same. not_total c.new-places.result c.in-Err.fault k c.in-Err.ensures (cc)
+pub returns-in_err-parts-clause-total : goal.returns-in_err-parts-clause-total
+returns-in_err-parts-clause-total c = λ k same. not_total c.new.result c.in_err-parts.field-0.0 k c.in_err-parts.ensures (search (same, rules))
