@@ -10,10 +10,10 @@ use Rattle.packing_laws.specs.declared.packings.Bin.{Bin}
 use Rattle.packing_laws.specs.Instances.{InstanceValue, type_at, item_at}
 use Rattle.packing_laws.specs.Packings.{Fits, count_of_item}
 use Rattle.packing_laws.specs.Printed.{IsWrittenPacking}
-use Rattle.packing_laws.proofs.WrittenPackings.{IsWrittenPacking-made, used_of-bins_of, count_of_item-bins_of}
+use Rattle.packing_laws.proofs.WrittenPackings.{IsWrittenPacking-made, limit-less, used_of-bins_of, count_of_item-bins_of}
 use Rattle.first_fit.specs.declared.filling.Filling.{Filling}
-use Rattle.first_fit.specs.Fillings.{IsFilling}
-use Rattle.first_fit.specs.Stages.{IsStage, packed_of, taken_of}
+use Rattle.first_fit.specs.inner.Fillings.{IsFilling}
+use Rattle.first_fit.specs.inner.Stages.{IsStage, packed_of, taken_of}
 use Rattle.first_fit.proofs.TakenUnits.{IsTaken}
 use Rattle.first_fit.proofs.FilledBins.{filling-fits}
 
@@ -25,10 +25,6 @@ limit-start (Some q) n free none is = omega arith
 limit-kept : (limit : Option ℕ) (m n : ℕ) → m ≡ n → IfSome limit (λ q. m ≤ q) → IfSome limit (λ q. n ≤ q)
 limit-kept None m n same within = tt
 limit-kept (Some q) m n same within = omega arith
-
-limit-less : (limit : Option ℕ) (m n : ℕ) → n ≤ m → IfSome limit (λ q. m ≤ q) → IfSome limit (λ q. n ≤ q)
-limit-less None m n less within = tt
-limit-less (Some q) m n less within = omega arith
 
 -- no bins
 pub stage-start : (I : InstanceValue) → IsStage I (map (λ (x : Item). x.demand) I.items) (map (λ (t : BinType). unwrap_or t.limit 4294967295) I.types) []
@@ -84,7 +80,7 @@ stage-next I rest free left bins b times new is stage filling size taken enough 
 pub stage-end : (I : InstanceValue) (rest free : List ℕ) (bins : List Bin) → IsStage I rest free bins → All (λ n. n ≡ 0) rest → IsWrittenPacking I bins
 stage-end I rest free bins stage empty =
     IsWrittenPacking-made I bins stage.fits
-    (λ t among. limit-less (type_at I t).limit (taken_of t bins + slice_index free (t - 1)) _ (let used = used_of-bins_of t bins in omega arith) (stage.limits t among))
+    (λ t among. limit-less (type_at I t).limit _ (taken_of t bins + slice_index free (t - 1)) (let used = used_of-bins_of t bins in omega arith) (stage.limits t among))
     (λ i among.
     let none : slice_index rest (i - 1) ≡ 0 = empty (i - 1) 0 (omega (arith, among.0, among.1, stage.items)) in
     let all : packed_of i bins + slice_index rest (i - 1) ≡ (item_at I i).demand = stage.demands i among in

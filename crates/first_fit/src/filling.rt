@@ -3,7 +3,7 @@
 ghost use Rattle.std.specs.Prelude.{◌≡◌, ◌+◌, ◌-◌, ◌*◌, ◌^◌, ◌<◌, ◌≤◌, ℕ, List, IfOk, OnOk, length, slice_index};
 ghost use Rattle.packing_laws.specs.Instances.{IsAmong, IsBinType, type_at};
 ghost use Rattle.packing_laws.specs.Packings.{count_of_item};
-ghost use Rattle.first_fit.specs.Fillings.{IsPiece, IsFilling, IsPutInto};
+ghost use Rattle.first_fit.specs.inner.Fillings.{IsPiece, IsFilling, IsMostOf, IsPutInto};
 
 use crate::pieces::{Piece, weights_of};
 use crate::stock::entry;
@@ -43,7 +43,7 @@ pub(crate) fn empty_bin(
     })
 }
 
-/// Puts as many units of a piece into the bin as fit and are left of its item, but no more than `most`.
+/// Puts as many units of a piece into the bin as fit, are left of its item and keep its cap, but no more than `most`.
 pub(crate) fn add(
     bin: &mut Filling,
     instance: &Instance,
@@ -59,10 +59,24 @@ pub(crate) fn add(
     let weights = weights_of(instance, piece.item, piece.form);
     let fitting = copies_within(bin.room.as_slice(), weights).min(most);
     if fitting > 0 {
-        let left = entry(rest, piece.item) - held(bin.counts.as_slice(), piece.item);
-        put(bin, piece, weights, fitting.min(left))?;
+        let free = most_of(instance, rest, piece.item) - held(bin.counts.as_slice(), piece.item);
+        put(bin, piece, weights, fitting.min(free))?;
     }
     Ok(())
+}
+
+/// How many units of an item one bin holds at most: those that are left, but no more than its cap.
+fn most_of(instance: &Instance, rest: &[u32], item: u32) -> u32
+    requires rest { length rest.now ≡ length instance.now.items }
+    requires item { IsAmong item (length instance.now.items) }
+    ensures { IsMostOf instance.now rest.now item result }
+{
+    instance.known();
+    let left = entry(rest, item);
+    match instance.cap_of(item) {
+        Some(cap) => left.min(cap),
+        None => left,
+    }
 }
 
 /// Puts so many units of a piece into the bin.

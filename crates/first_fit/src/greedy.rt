@@ -4,8 +4,8 @@ ghost use Rattle.std.specs.Prelude.{◌≡◌, ◌-◌, ◌*◌, ◌≤◌, ℕ,
 ghost use Rattle.packing_laws.specs.Instances.{InstanceValue, IsAmong, IsBinType, type_at};
 ghost use Rattle.packing_laws.specs.Packings.{count_of_item};
 ghost use Rattle.packing_laws.specs.Printed.{IsWrittenPacking};
-ghost use Rattle.first_fit.specs.Fillings.{IsPiece, IsFilling};
-ghost use Rattle.first_fit.specs.Stages.{IsStage};
+ghost use Rattle.first_fit.specs.inner.Fillings.{IsPiece, IsFilling};
+ghost use Rattle.first_fit.specs.inner.Stages.{IsStage};
 
 use crate::filling::{Filling, add, empty_bin, held};
 use crate::pieces::{Piece, pieces_of};

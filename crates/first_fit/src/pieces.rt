@@ -2,7 +2,7 @@
 
 ghost use Rattle.std.specs.Prelude.{◌≡◌, ◌+◌, ◌≤◌, All, IfOk, OnOk, length};
 ghost use Rattle.packing_laws.specs.Instances.{IsAmong, item_at, form_at};
-ghost use Rattle.first_fit.specs.Fillings.{IsPiece};
+ghost use Rattle.first_fit.specs.inner.Fillings.{IsPiece};
 
 use arc_num::{MAX_FORMS, Memory};
 use packing_laws::{Instance, Item, Numbers};

@@ -4,8 +4,8 @@ use Rattle.packing_laws.specs.declared.packings.Bin.{Bin}
 use Rattle.packing_laws.specs.Instances.{InstanceValue}
 use Rattle.packing_laws.specs.Packings.{Content}
 use Rattle.first_fit.specs.declared.filling.Filling.{Filling}
-use Rattle.first_fit.specs.Fillings.{IsPiece, IsFilling}
-use Rattle.first_fit.specs.Stages.{IsStage}
+use Rattle.first_fit.specs.inner.Fillings.{IsPiece, IsFilling}
+use Rattle.first_fit.specs.inner.Stages.{IsStage}
 use Rattle.first_fit.proofs.TakenUnits.{IsTaken}
 use Rattle.first_fit.proofs.Packed.{stage-start, stage-next, stage-end}
 use Rattle.first_fit.proofs.greedy.pack.Goals as goal

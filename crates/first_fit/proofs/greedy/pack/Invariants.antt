@@ -1,7 +1,7 @@
 -- A packing is under way.
 use Rattle.std.proofs.Common.{All}
-use Rattle.first_fit.specs.Fillings.{IsPiece}
-use Rattle.first_fit.specs.Stages.{IsStage}
+use Rattle.first_fit.specs.inner.Fillings.{IsPiece}
+use Rattle.first_fit.specs.inner.Stages.{IsStage}
 use Rattle.first_fit.proofs.greedy.pack.Given as goal
 
 abbrev pub invariant-loop-turn : goal.invariant-loop-turn

@@ -1,6 +1,6 @@
 -- All pieces so far are forms of items.
 use Rattle.std.proofs.Common.{All}
-use Rattle.first_fit.specs.Fillings.{IsPiece}
+use Rattle.first_fit.specs.inner.Fillings.{IsPiece}
 use Rattle.first_fit.proofs.pieces.push_forms.Given as goal
 
 abbrev pub invariant-loop-at : goal.invariant-loop-at
