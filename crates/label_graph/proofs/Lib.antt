@@ -1,4 +1,6 @@
 pub mod Members
+pub mod InOrder
+pub mod ImagesExist
 pub mod Paths
 pub mod Merging
 pub mod ImageGraphs

@@ -15,7 +15,7 @@ use Rattle.label_graph.specs.declared.parts.Mark.{Mark}
 use Rattle.label_graph.specs.declared.parts.Mark.TheVariants.{Loss, Piece as Carries}
 use Rattle.label_graph.specs.Graph.{GraphValue, IsGraph, ArcBefore, MarkBefore}
 use Rattle.label_graph.specs.Images.{IsLabelling, IsImage, AreDistinct, IsMergedInto, BecomesArc}
-use Rattle.label_graph.specs.Merges.{AreNodes, HasEnds, is_loss, merged_arc}
+use Rattle.label_graph.specs.inner.Merges.{AreNodes, HasEnds, is_loss, merged_arc}
 use Rattle.label_graph.proofs.Members.{contains_cons, contains_here, contains_there, contains_nothing}
 use Rattle.label_graph.proofs.Merging.{arc-ends, node-one}
 

@@ -12,7 +12,7 @@ use Rattle.weight_vec.specs.Weight.{Before}
 use Rattle.indexmap.specs.IndexSet.{insert_key}
 use Rattle.label_graph.specs.Graph.{label_of}
 use Rattle.label_graph.specs.Images.{IsMergedInto}
-use Rattle.label_graph.specs.Merges.{AreNodes}
+use Rattle.label_graph.specs.inner.Merges.{AreNodes}
 use Rattle.label_graph.proofs.Merging.{never_before_itself}
 
 same-label : (xs ys : List ℕ) → pointwise nat_eq xs ys ≡ true → xs ≡ ys

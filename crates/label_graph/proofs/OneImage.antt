@@ -8,23 +8,15 @@ use Rattle.label_graph.specs.declared.parts.GraphArc.{GraphArc}
 use Rattle.label_graph.specs.Graph.{GraphValue, ArcBefore, MarkBefore}
 use Rattle.label_graph.specs.Images.{IsImage, BecomesArc}
 use Rattle.label_graph.proofs.Members.{contains_cons, contains_here, contains_there, contains_nothing}
+use Rattle.label_graph.proofs.InOrder.{first-before, rest-up}
 use Rattle.label_graph.proofs.Merging.{before-one_way}
 
 module _ {X : Type 0} (R : X → X → Type 0) (one_way : (x y : X) → R x y → R y x → ⊥) where
-  first-before : (y : X) (ys : List X) (x : X) → AllPairs R (y ∷ ys) → Contains ys x → R y x
-  first-before y ys x up m =
-      let lt : m.0 < length ys = m.1 in
-      let pair : R y (get_or ys m.0 x) = up 0 (suc m.0) x (omega arith) (omega arith) in
-      subst (λ (z : X). R y z) m.2 pair
-
-  rest-up : (y : X) (ys : List X) → AllPairs R (y ∷ ys) → AllPairs R ys
-  rest-up y ys up i j d lt in_range = up (suc i) (suc j) d (omega arith) (omega arith)
-
   -- what is in order behind the first element is not that element
   rest-member : (x y : X) (xs ys : List X) → AllPairs R (x ∷ xs) → x ≡ y → ((z : X) → Contains (x ∷ xs) z → Contains (y ∷ ys) z) → (z : X) → Contains xs z → Contains ys z
   rest-member x y xs ys up same there z m =
       ⊎_elim
-      (λ e. let itself : R x x = subst (λ (w : X). R x w) (sym (same ∙ e)) (first-before x xs z up m) in absurd (one_way x x itself itself))
+      (λ e. let itself : R x x = subst (λ (w : X). R x w) (sym (same ∙ e)) (first-before R x xs z up m) in absurd (one_way x x itself itself))
       (λ late. late)
       (contains_cons y ys z (there z (contains_there x xs z m)))
 
@@ -36,9 +28,9 @@ module _ {X : Type 0} (R : X → X → Type 0) (one_way : (x y : X) → R x y �
       let same : x ≡ y =
       ⊎_elim
       (λ e. sym e)
-      (λ late. ⊎_elim (λ e. e) (λ after. absurd (one_way x y (first-before x xs y up after) (first-before y ys x down late))) (contains_cons x xs y (back y (contains_here y ys))))
+      (λ late. ⊎_elim (λ e. e) (λ after. absurd (one_way x y (first-before R x xs y up after) (first-before R y ys x down late))) (contains_cons x xs y (back y (contains_here y ys))))
       (contains_cons y ys x (there x (contains_here x xs))) in
-      let rest = same-list xs ys (rest-up x xs up) (rest-up y ys down) (rest-member x y xs ys up same there) (rest-member y x ys xs down (sym same) back) in
+      let rest = same-list xs ys (rest-up R x xs up) (rest-up R y ys down) (rest-member x y xs ys up same there) (rest-member y x ys xs down (sym same) back) in
       λ i. same i ∷ rest i
 
 mark-one_way : (m n : Mark) → MarkBefore m n → MarkBefore n m → ⊥

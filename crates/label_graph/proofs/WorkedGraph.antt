@@ -8,7 +8,8 @@ use Rattle.label_graph.specs.declared.parts.Piece.{Piece}
 use Rattle.label_graph.specs.declared.parts.Mark.TheVariants.{Loss, Piece as Carries}
 use Rattle.label_graph.specs.declared.parts.GraphArc.{GraphArc}
 use Rattle.label_graph.specs.Graph.{IsGraph, IsKnown, ArcBefore, label_of, mark_weight}
-use Rattle.label_graph.specs.Rows.{two_pieces}
+use Rattle.label_graph.specs.Worked.{two_pieces}
+use Rattle.label_graph.proofs.InOrder.{pairs-none, pairs-cons}
 
 in_range : (x : ℕ) → x < 2 ^ 32 → IsInRange (x ∷ [])
 in_range x h zero = h
@@ -20,14 +21,6 @@ at_most x y h (suc d) = omega arith
 
 heavy : (x : ℕ) → 1 ≤ x → IsZero (x ∷ []) → ⊥
 heavy x h none = let bad : x ≡ 0 = none 0 in omega arith
-
-pairs-none : {X : Type 0} (R : X → X → Type 0) → AllPairs R []
-pairs-none R i j d lt within = absurd (let bad : j < 0 = within in omega arith)
-
-pairs-cons : {X : Type 0} (R : X → X → Type 0) (x : X) (xs : List X) → All (R x) xs → AllPairs R xs → AllPairs R (x ∷ xs)
-pairs-cons R x xs first rest i zero d lt within = absurd (omega arith)
-pairs-cons R x xs first rest zero (suc j) d lt within = first j d (omega arith)
-pairs-cons R x xs first rest (suc i) (suc j) d lt within = rest i j d (omega arith) (omega arith)
 
 abbrev one : GraphArc
 one = record { tail = 1; head = 2; mark = Loss }

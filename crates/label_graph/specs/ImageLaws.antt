@@ -1,4 +1,4 @@
--- Laws of images: they are graphs, they lose no content, there is but one, and padding changes nothing of them.
+-- Laws of images: they are graphs, they lose no content, there is one and but one, and padding changes nothing of them.
 use Rattle.std.specs.Prelude.{◌≡◌, ℕ, ◌≤◌, List, All, length}
 use Rattle.weight_vec.specs.Weight.{IsInRange}
 use Rattle.label_graph.specs.declared.parts.GraphArc.{GraphArc}
@@ -23,6 +23,10 @@ pub record HasPathLike {N : ℕ} (g : GraphValue N) (path : List GraphArc) : Typ
 -- the content of each path from the source to the target is that of such a path of the image
 abbrev pub ImagesKeepContents : Type 0
 ImagesKeepContents = (N : ℕ) (g image : GraphValue N) (labels : List (List ℕ)) → IsGraph N g → IsLabelling g labels → IsImage g labels image → (path : List GraphArc) → IsPath g.arcs 1 (length g.labels) path → HasPathLike image path
+
+-- a graph has an image under each labelling
+abbrev pub ImagesExist : Type 0
+ImagesExist = (N : ℕ) (g : GraphValue N) (labels : List (List ℕ)) → IsGraph N g → IsLabelling g labels → (image : GraphValue N) × IsImage g labels image
 
 -- there is but one image under some labels
 abbrev pub ImagesAreOne : Type 0

@@ -4,5 +4,5 @@ pub mod Images
 pub mod Heaviest
 pub mod Cuts
 pub mod ImageLaws
-pub mod Merges
-pub mod Rows
+pub mod inner
+pub mod Worked

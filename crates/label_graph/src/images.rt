@@ -6,7 +6,7 @@ ghost use Rattle.std.specs.declared.cmp.Ordering.TheVariants.{Less};
 ghost use Rattle.weight_vec.specs.Weight.{Before};
 ghost use Rattle.label_graph.specs.Graph.{GraphValue, IsGraph, ArcBefore, MarkBefore};
 ghost use Rattle.label_graph.specs.Images.{IsLabelling, IsImage, AreDistinct, IsMergedInto};
-ghost use Rattle.label_graph.specs.Merges.{AreNodes, HasEnds, merged_arc};
+ghost use Rattle.label_graph.specs.inner.Merges.{AreNodes, HasEnds, merged_arc};
 
 use crate::graph::Graph;
 use crate::laws::images_are_graphs;

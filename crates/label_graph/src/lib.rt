@@ -10,7 +10,7 @@ mod parts;
 pub use graph::Graph;
 pub use images::{image, quotient};
 pub use laws::{
-    cuts_keep_images, images_are_graphs, images_are_one, images_keep_contents,
+    cuts_keep_images, images_are_graphs, images_are_one, images_exist, images_keep_contents,
     labels_bound_weights, nodes_lie_on_paths,
 };
 pub use lists::{known_weights, sort_distinct};

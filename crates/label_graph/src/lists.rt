@@ -17,7 +17,7 @@ pub fn sort_distinct<T: Ord + Drop>(all: &mut Vec<T>)
     all.dedup();
 }
 
-/// A call that costs nothing: how many numbers each weight has, and their range.
+/// Changes nothing, in one pass over the weights: it tells how many numbers each has, and their range.
 pub fn known_weights<const N: usize>(weights: &[Weights<N>])
     requires small { N ≤ 32 }
     ensures sized { All (λ l. length l ≡ N) weights.now }

@@ -1,10 +1,10 @@
 ghost use Rattle.std.specs.Prelude.{◌≡◌, [], ◌∷◌, IfOk};
-ghost use Rattle.label_graph.specs.Rows.{two_pieces, two_nodes};
+ghost use Rattle.label_graph.specs.Worked.{two_pieces, two_nodes};
 
 use crate::{
     Graph, GraphArc, GraphFault, Mark, Piece, cuts_keep_images, images_are_graphs, images_are_one,
-    images_keep_contents, known_weights, labels_bound_weights, nodes_lie_on_paths, quotient,
-    sort_distinct,
+    images_exist, images_keep_contents, known_weights, labels_bound_weights, nodes_lie_on_paths,
+    quotient, sort_distinct,
 };
 use std::alloc::{AllocError, Global};
 use std::test::Fail;
@@ -128,5 +128,6 @@ fn laws_hold() {
     images_are_graphs();
     images_keep_contents();
     images_are_one();
+    images_exist();
     cuts_keep_images();
 }

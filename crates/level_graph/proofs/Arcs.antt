@@ -14,7 +14,7 @@ use Rattle.label_graph.specs.declared.parts.Mark.TheVariants.{Loss, Piece as Car
 use Rattle.label_graph.specs.Graph.{ArcBefore}
 use Rattle.level_graph.specs.declared.states.State.{State}
 use Rattle.level_graph.specs.Levels.{StateBefore, state_cmp, Step, IsReached, IsNode, IsStepArc, IsLevels, target}
-use Rattle.level_graph.specs.Layers.{AreStates, IsArcPushed, AppendsStep, take_mark, skip_mark}
+use Rattle.level_graph.specs.inner.Layers.{AreStates, IsArcPushed, AppendsStep, take_mark, skip_mark}
 use Rattle.level_graph.proofs.StateOrder.{state_total, before-piece, before-copies}
 use Rattle.level_graph.proofs.Reached.{next_reached, reached-low, target-piece}
 

@@ -12,7 +12,7 @@ use Rattle.label_graph.specs.declared.parts.Mark.{Mark}
 use Rattle.label_graph.specs.declared.parts.Mark.TheVariants.{Piece as Carries}
 use Rattle.level_graph.specs.declared.states.State.{State}
 use Rattle.level_graph.specs.Levels.{Step, IsLevelCount, target}
-use Rattle.level_graph.specs.Layers.{taken, skipped, entered, IsLayer, AreStates, AreWeights, AppendsStep, take_mark, skip_mark}
+use Rattle.level_graph.specs.inner.Layers.{taken, skipped, entered, IsLayer, AreStates, AreWeights, AppendsStep, take_mark, skip_mark}
 use Rattle.level_graph.proofs.Members.{contains_here, contains_there}
 use Rattle.level_graph.proofs.LayerSteps.{entries}
 use Rattle.level_graph.proofs.Reached.{reached-low}

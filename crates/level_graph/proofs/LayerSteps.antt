@@ -11,7 +11,7 @@ use Rattle.weight_vec.proofs.Places.{length-plus}
 use Rattle.label_graph.specs.declared.parts.Piece.{Piece}
 use Rattle.level_graph.specs.declared.states.State.{State}
 use Rattle.level_graph.specs.Levels.{StateBefore}
-use Rattle.level_graph.specs.Layers.{taken, entered, IsLayer}
+use Rattle.level_graph.specs.inner.Layers.{taken, entered, IsLayer}
 use Rattle.level_graph.proofs.Members.{contains_take, from_filter_map, from_map}
 use Rattle.level_graph.proofs.StateOrder.{before-copies, before-used}
 use Rattle.level_graph.proofs.Takes.{taken-is, taken-keeps_order}

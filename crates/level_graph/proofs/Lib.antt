@@ -10,6 +10,7 @@ pub mod Search
 pub mod Pushes
 pub mod GraphOf
 pub mod Counting
+pub mod LevelsExist
 pub mod Uniqueness
 pub mod Leading
 pub mod Choices

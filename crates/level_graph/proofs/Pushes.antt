@@ -8,7 +8,7 @@ use Rattle.label_graph.specs.declared.parts.Mark.{Mark}
 use Rattle.label_graph.specs.declared.parts.Mark.TheVariants.{Loss, Piece as Carries}
 use Rattle.level_graph.specs.declared.states.State.{State}
 use Rattle.level_graph.specs.Levels.{Step, IsReached, IsNode, target}
-use Rattle.level_graph.specs.Layers.{taken, skipped, AreStates, IsArcPushed, AppendsStep}
+use Rattle.level_graph.specs.inner.Layers.{taken, skipped, AreStates, IsArcPushed, AppendsStep}
 use Rattle.level_graph.proofs.Arcs.{node-same, node-contains}
 use Rattle.level_graph.proofs.Reached.{next_reached, reached-low, take-step, step-take}
 

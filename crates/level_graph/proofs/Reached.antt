@@ -11,7 +11,7 @@ use Rattle.label_graph.specs.declared.parts.Mark.TheVariants.{Loss, Piece as Car
 use Rattle.label_graph.specs.Graph.{piece_weight}
 use Rattle.level_graph.specs.declared.states.State.{State}
 use Rattle.level_graph.specs.Levels.{Step, ReachedIn, IsReached, source, target, piece_copies}
-use Rattle.level_graph.specs.Layers.{taken, entered, IsLayer}
+use Rattle.level_graph.specs.inner.Layers.{taken, entered, IsLayer}
 use Rattle.level_graph.proofs.Members.{contains_filter_map, from_filter_map, contains_map, from_map}
 use Rattle.level_graph.proofs.Takes.{taken-is, taken-some}
 use Rattle.level_graph.proofs.LayerSteps.{entry}

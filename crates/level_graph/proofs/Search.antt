@@ -8,32 +8,11 @@ use Rattle.std.specs.declared.cmp.Ordering.TheVariants.{Less, Equal, Greater}
 use Rattle.std.specs.Cmp.Lexicographic.{slice_cmp}
 use Rattle.std.proofs.lemmas.Cmp.{ranked, by_ranked, tied_itself}
 use Rattle.std.proofs.lemmas.Bool.{cases_lt}
+use Rattle.arc_num.proofs.Orders.{then_equal, number_equal, list_equal}
 use Rattle.level_graph.specs.declared.states.State.{State}
 use Rattle.level_graph.specs.Levels.{StateBefore, state_cmp, IsNode}
 use Rattle.level_graph.proofs.StateOrder.{state_total}
 use Rattle.level_graph.proofs.Arcs.{never_before_itself}
-
-then_equal : (o p : Ordering) → ordering_then o p ≡ Equal → (o ≡ Equal) × (p ≡ Equal)
-then_equal Less p h = absurd (let bad : Less ≡ Equal = h in cc)
-then_equal Equal p h = (refl, h)
-then_equal Greater p h = absurd (let bad : Greater ≡ Equal = h in cc)
-
-number_equal : (x y : ℕ) → nat_cmp x y ≡ Equal → x ≡ y
-number_equal x y h =
-    by_ranked (x < y) (x ≡ y) (y < x) (nat_cmp x y) (ranked x y (nat_cmp x y) refl)
-    (λ is lt. absurd (let bad : Less ≡ Equal = sym is ∙ h in cc))
-    (λ is same. same)
-    (λ is gt. absurd (let bad : Greater ≡ Equal = sym is ∙ h in cc))
-
-list_equal : (xs ys : List ℕ) → slice_cmp nat_cmp xs ys ≡ Equal → xs ≡ ys
-list_equal [] [] h = refl
-list_equal [] (y ∷ ys) h = absurd (let bad : Less ≡ Equal = h in cc)
-list_equal (x ∷ xs) [] h = absurd (let bad : Greater ≡ Equal = h in cc)
-list_equal (x ∷ xs) (y ∷ ys) h =
-    let parts = then_equal (nat_cmp x y) (slice_cmp nat_cmp xs ys) h in
-    let first = number_equal x y parts.0 in
-    let rest = list_equal xs ys parts.1 in
-    λ i. first i ∷ rest i
 
 at_most_two : (o : Ordering) → ordering_index o ≤ 2
 at_most_two Less = omega arith
@@ -47,7 +26,7 @@ module _ {N : ℕ} where
       let more = then_equal (nat_cmp s.copies t.copies) (slice_cmp nat_cmp s.used t.used) parts.1 in
       let p = number_equal s.piece t.piece parts.0 in
       let q = number_equal s.copies t.copies more.0 in
-      let r = list_equal s.used t.used more.1 in
+      let r = list_equal nat_cmp number_equal s.used t.used more.1 in
       λ i. record { piece = p i; copies = q i; used = r i }
 
   -- what comes before is ranked no higher

@@ -9,7 +9,7 @@ use Rattle.weight_vec.specs.Weight.{Before}
 use Rattle.label_graph.specs.declared.parts.Piece.{Piece}
 use Rattle.level_graph.specs.declared.states.State.{State}
 use Rattle.level_graph.specs.Levels.{StateBefore, IsReached, target}
-use Rattle.level_graph.specs.Layers.{IsLayer, AreWeights, AreStates}
+use Rattle.level_graph.specs.inner.Layers.{IsLayer, AreWeights, AreStates}
 use Rattle.level_graph.proofs.Members.{contains_cons, contains_here, contains_nothing}
 use Rattle.level_graph.proofs.StateOrder.{before-piece}
 use Rattle.level_graph.proofs.Reached.{Enters, reached-low, reached-end, target_reached, target-piece, layer-here, layer-sound, layer-complete}

@@ -5,34 +5,28 @@ use Rattle.std.specs.Cmp.{IsTotalOrder}
 use Rattle.std.specs.declared.cmp.Ordering.TheVariants.{Less, Equal, Greater}
 use Rattle.std.specs.Cmp.Lexicographic.{slice_cmp}
 use Rattle.std.proofs.lemmas.Cmp.{ranked, by_ranked, nat_cmp_total, nat_list_cmp_total, on_total, then_total}
-use Rattle.std.proofs.lemmas.Bool.Decides.{nat_tests}
 use Rattle.weight_vec.specs.Weight.{Before}
+use Rattle.label_graph.proofs.InOrder.{number-before, number-same}
 use Rattle.level_graph.specs.declared.states.State.{State}
 use Rattle.level_graph.specs.Levels.{state_cmp, StateBefore}
-
-pub nat_less : (x y : ℕ) → x < y → nat_cmp x y ≡ Less
-nat_less x y h = grind (arith, nat_tests)
-
-pub nat_same : (x y : ℕ) → x ≡ y → nat_cmp x y ≡ Equal
-nat_same x y h = grind (arith, nat_tests)
 
 module _ {N : ℕ} where
   pub state_total : IsTotalOrder (state_cmp {N = N})
   state_total = then_total (on_total (λ (s : State N). s.piece) nat_cmp_total) (then_total (on_total (λ (s : State N). s.copies) nat_cmp_total) (on_total (λ (s : State N). s.used) nat_list_cmp_total))
 
   pub before-piece : (s t : State N) → s.piece < t.piece → StateBefore s t
-  before-piece s t h = rw (nat_less s.piece t.piece h) refl
+  before-piece s t h = rw (number-before s.piece t.piece h) refl
 
   pub before-copies : (s t : State N) → s.piece ≡ t.piece → s.copies < t.copies → StateBefore s t
-  before-copies s t e h = rw (nat_same s.piece t.piece e, nat_less s.copies t.copies h) refl
+  before-copies s t e h = rw (number-same s.piece t.piece e, number-before s.copies t.copies h) refl
 
   pub before-used : (s t : State N) → s.piece ≡ t.piece → s.copies ≡ t.copies → Before s.used t.used → StateBefore s t
-  before-used s t e f h = rw (nat_same s.piece t.piece e, nat_same s.copies t.copies f) h
+  before-used s t e f h = rw (number-same s.piece t.piece e, number-same s.copies t.copies f) h
 
   -- what the order says of two states of one piece
   pub before-cases : (s t : State N) → s.piece ≡ t.piece → StateBefore s t → (s.copies < t.copies) ⊎ ((s.copies ≡ t.copies) × Before s.used t.used)
   before-cases s t e h =
-      let rest : ordering_then (nat_cmp s.copies t.copies) (slice_cmp nat_cmp s.used t.used) ≡ Less = rw (nat_same s.piece t.piece e) at h in
+      let rest : ordering_then (nat_cmp s.copies t.copies) (slice_cmp nat_cmp s.used t.used) ≡ Less = rw (number-same s.piece t.piece e) at h in
       by_ranked (s.copies < t.copies) (s.copies ≡ t.copies) (t.copies < s.copies) (nat_cmp s.copies t.copies) (ranked s.copies t.copies (nat_cmp s.copies t.copies) refl)
       (λ is lt. inl lt)
       (λ is same. inr (same, rw is at rest))

@@ -6,7 +6,7 @@ use Rattle.weight_vec.proofs.Orders.{slice_cmp-plus}
 use Rattle.label_graph.specs.declared.parts.Piece.{Piece}
 use Rattle.level_graph.specs.declared.states.State.{State}
 use Rattle.level_graph.specs.Levels.{StateBefore}
-use Rattle.level_graph.specs.Layers.{at_most, taken}
+use Rattle.level_graph.specs.inner.Layers.{at_most, taken}
 use Rattle.level_graph.proofs.StateOrder.{before-copies, before-used, before-cases}
 
 pub at_most-sound : (xs ys : List ℕ) → at_most xs ys ≡ true → (d : ℕ) → get_or xs d 0 ≤ get_or ys d 0

@@ -1,4 +1,4 @@
--- Laws of level graphs: the contents of their paths, and that there is but one.
+-- Laws of level graphs: the contents of their paths, and that there is one and but one.
 use Rattle.std.specs.Prelude.{◌≡◌, ℕ, ◌+◌, ◌*◌, ◌≤◌, ◌<◌, List, [], ◌∷◌, All, length, map, slice_index, take}
 use Rattle.label_graph.specs.declared.parts.GraphArc.{GraphArc}
 use Rattle.label_graph.specs.declared.parts.Piece.{Piece}
@@ -52,6 +52,10 @@ pub record AreWeighed {N : ℕ} (pieces : List (Piece N)) (cap : List ℕ) : Typ
   pub ranged : IsInRange cap
   pub pieces_sized : All (λ q. length q.weight ≡ N) pieces
   pub pieces_ranged : All (λ q. IsInRange q.weight) pieces
+
+-- there is a level graph of each list of pieces
+abbrev pub LevelGraphsExist : Type 0
+LevelGraphsExist = (N : ℕ) (pieces : List (Piece N)) (cap : List ℕ) → IsPieceList pieces cap → AreWeighed pieces cap → (g : GraphValue N) × IsLevelGraph pieces cap g
 
 -- the level graph is a graph, whose labels fit the capacity
 pub record IsGraphWithin {N : ℕ} (cap : List ℕ) (g : GraphValue N) : Type 0 where

@@ -1,3 +1,3 @@
 pub mod Levels
 pub mod LevelLaws
-pub mod Layers
+pub mod inner

@@ -1,7 +1,7 @@
 ghost use Rattle.std.specs.Prelude.{◌≡◌, ◌<◌, ◌≤◌, length, All, AllPairs, Contains, IfOk, OnOk};
 ghost use Rattle.weight_vec.specs.Weight.{IsInRange};
 ghost use Rattle.level_graph.specs.Levels.{IsPieceList, IsLevelGraph, IsLevels, IsNode, StateBefore, target};
-ghost use Rattle.level_graph.specs.Layers.{AreStates, AppendsStep, take_mark, skip_mark, skipped};
+ghost use Rattle.level_graph.specs.inner.Layers.{AreStates, AppendsStep, take_mark, skip_mark, skipped};
 
 use crate::layers::{layer_of, take, used_weights, weights_of};
 use crate::states::State;
@@ -11,7 +11,8 @@ use std::alloc::Global;
 use weight_vec::Weights;
 
 /// The level graph of the pieces: its nodes are the states that takes and skips reach, each labelled with its weight
-/// and the target with the capacity, and its arcs are the takes and skips.
+/// and the target with the capacity, and its arcs are the takes and skips. Without pieces the source is the target, and
+/// is labelled with no weight.
 pub fn levels<const N: usize>(
     alloc: Global,
     pieces: &[Piece<N>],
@@ -30,7 +31,7 @@ pub fn levels<const N: usize>(
     Ok(Graph::new(pieces, labels, arcs))
 }
 
-// A call that costs nothing: how many numbers the weight of each piece has, and their range.
+// Changes nothing, in one pass over the pieces: it tells how many numbers the weight of each piece has, and their range.
 fn known_pieces<const N: usize>(pieces: &[Piece<N>])
     requires small { N ≤ 32 }
     ensures sized { All (λ q. length q.weight ≡ N) pieces.now }

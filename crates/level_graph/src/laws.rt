@@ -1,6 +1,6 @@
 //! What holds of all level graphs. Each function is empty: a call brings its law in as a fact.
 
-ghost use Rattle.level_graph.specs.LevelLaws.{PathsAreChoices, ChoicesHaveOnePath, LevelsAreOne, LevelGraphsAreGraphs, CutsKeepLevelGraphs};
+ghost use Rattle.level_graph.specs.LevelLaws.{PathsAreChoices, ChoicesHaveOnePath, LevelGraphsExist, LevelsAreOne, LevelGraphsAreGraphs, CutsKeepLevelGraphs};
 
 /// The content of each path from the source to the target is there and fits.
 pub fn paths_are_choices()
@@ -10,6 +10,11 @@ pub fn paths_are_choices()
 /// Each content that is there and fits is that of exactly one path from the source to the target.
 pub fn choices_have_one_path()
     ensures { ChoicesHaveOnePath }
+{}
+
+/// There is a level graph of each list of pieces and each capacity that they fit.
+pub fn level_graphs_exist()
+    ensures { LevelGraphsExist }
 {}
 
 /// There is but one level graph of a list of pieces and a capacity.

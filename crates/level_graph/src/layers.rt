@@ -2,7 +2,7 @@
 
 ghost use Rattle.std.specs.Prelude.{◌≡◌, ◌≤◌, length, map, All, AllPairs, IfOk};
 ghost use Rattle.weight_vec.specs.Weight.{Before};
-ghost use Rattle.level_graph.specs.Layers.{taken, entered, IsLayer, AreWeights};
+ghost use Rattle.level_graph.specs.inner.Layers.{taken, entered, IsLayer, AreWeights};
 
 use crate::states::State;
 use arc_num::Memory;

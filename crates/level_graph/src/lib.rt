@@ -10,8 +10,8 @@ mod states;
 pub use build::levels;
 pub use counts::level_counts;
 pub use laws::{
-    choices_have_one_path, cuts_keep_level_graphs, level_graphs_are_graphs, levels_are_one,
-    paths_are_choices,
+    choices_have_one_path, cuts_keep_level_graphs, level_graphs_are_graphs, level_graphs_exist,
+    levels_are_one, paths_are_choices,
 };
 
 #[cfg(test)]

@@ -3,8 +3,8 @@ ghost use Rattle.weight_vec.specs.Weight.{AtMost, IsZero};
 ghost use Rattle.level_graph.specs.Levels.{IsPieceList};
 
 use crate::{
-    choices_have_one_path, cuts_keep_level_graphs, level_counts, level_graphs_are_graphs, levels,
-    levels_are_one, paths_are_choices,
+    choices_have_one_path, cuts_keep_level_graphs, level_counts, level_graphs_are_graphs,
+    level_graphs_exist, levels, levels_are_one, paths_are_choices,
 };
 use arc_num::MAX_ALL_FORMS;
 use label_graph::{Graph, Piece};
@@ -127,6 +127,7 @@ fn rows_of_two_dimensions_have_their_counts(rt: HostRuntime) -> Result<(), Fail>
 fn laws_hold() {
     paths_are_choices();
     choices_have_one_path();
+    level_graphs_exist();
     levels_are_one();
     level_graphs_are_graphs();
     cuts_keep_level_graphs();

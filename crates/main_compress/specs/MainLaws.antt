@@ -1,4 +1,4 @@
--- Laws of main graphs: their paths fit, they lose no content, there is but one, and padding changes nothing of them.
+-- Laws of main graphs: their paths fit, they lose no content, there is one and but one, and padding changes nothing of them.
 use Rattle.std.specs.Prelude.{◌≡◌, ℕ, ◌≤◌, List, All, length, slice_index, take}
 use Rattle.weight_vec.specs.Weight.{AtMost, IsInRange}
 use Rattle.label_graph.specs.declared.parts.GraphArc.{GraphArc}
@@ -24,6 +24,10 @@ MainPathsFit = (N : ℕ) (cap : List ℕ) (g main : GraphValue N) → IsGraph N 
 -- the content of each path from the source to the target is that of such a path of the main graph
 abbrev pub MainGraphsKeepContents : Type 0
 MainGraphsKeepContents = (N : ℕ) (cap : List ℕ) (g main : GraphValue N) → IsGraph N g → IsRoomFor cap g → IsMainGraph cap g main → (path : List GraphArc) → IsPath g.arcs 1 (length g.labels) path → HasPathLike main path
+
+-- a graph within a capacity has a main graph
+abbrev pub MainGraphsExist : Type 0
+MainGraphsExist = (N : ℕ) (cap : List ℕ) (g : GraphValue N) → IsGraph N g → IsRoomFor cap g → (main : GraphValue N) × IsMainGraph cap g main
 
 -- there is but one main graph
 abbrev pub MainGraphsAreOne : Type 0

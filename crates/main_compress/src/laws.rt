@@ -1,9 +1,10 @@
 //! What holds of all main graphs. Each function is empty but for other laws: a call brings its law in as a fact.
 
-ghost use Rattle.main_compress.specs.MainLaws.{MainGraphsAreGraphs, MainPathsFit, MainGraphsKeepContents, MainGraphsAreOne, CutsKeepMainGraphs};
+ghost use Rattle.main_compress.specs.MainLaws.{MainGraphsAreGraphs, MainPathsFit, MainGraphsKeepContents, MainGraphsExist, MainGraphsAreOne, CutsKeepMainGraphs};
 
 use label_graph::{
-    cuts_keep_images, images_are_graphs, images_are_one, images_keep_contents, labels_bound_weights,
+    cuts_keep_images, images_are_graphs, images_are_one, images_exist, images_keep_contents,
+    labels_bound_weights,
 };
 
 /// The main graph of a graph is a graph.
@@ -26,6 +27,13 @@ pub fn main_graphs_keep_contents()
     ensures { MainGraphsKeepContents }
 {
     images_keep_contents();
+}
+
+/// A graph whose labels fit a capacity has a main graph.
+pub fn main_graphs_exist()
+    ensures { MainGraphsExist }
+{
+    images_exist();
 }
 
 /// There is but one main graph of a graph and a capacity.

@@ -2,7 +2,7 @@ use Rattle.std.proofs.Common.{◌≡◌, ℕ, List, get_or, sym, subst, rules, �
 use Rattle.std.specs.Prelude.{Contains}
 use Rattle.std.specs.List.{filter_map}
 use Rattle.std.proofs.lemmas.List.Elements.{Contains-get_or}
-use Rattle.label_graph.specs.Merges.{AreNodes, merged_arc}
+use Rattle.label_graph.specs.inner.Merges.{AreNodes, merged_arc}
 use Rattle.label_graph.proofs.MergedArcs.{image-made, sorted-arcs}
 use Rattle.label_graph.proofs.images.image_arcs.Goals as goal
 

@@ -1,7 +1,7 @@
 use Rattle.std.proofs.Common.{sym, ap, ◌∙◌, List, [], ◌∷◌, ◌++◌, Vec, Global, Some}
 use Rattle.label_graph.specs.declared.parts.GraphArc.{GraphArc}
 use Rattle.label_graph.specs.declared.parts.Mark.TheVariants.{Loss}
-use Rattle.label_graph.specs.Merges.{merged_arc}
+use Rattle.label_graph.specs.inner.Merges.{merged_arc}
 use Rattle.label_graph.proofs.MergedArcs.{filter_map-more, filter_map-same}
 use Rattle.label_graph.proofs.images.merged_arcs.Goals.{in-Some+in_ok-push, in_default}
 use Rattle.label_graph.proofs.images.merged_arcs.Goals as goal

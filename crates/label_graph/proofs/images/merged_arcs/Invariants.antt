@@ -1,6 +1,6 @@
 use Rattle.std.proofs.Common.{◌≡◌, take}
 use Rattle.std.specs.List.{filter_map}
-use Rattle.label_graph.specs.Merges.{merged_arc}
+use Rattle.label_graph.specs.inner.Merges.{merged_arc}
 use Rattle.label_graph.proofs.images.merged_arcs.Given as goal
 
 abbrev pub invariant-loop-arc : goal.invariant-loop-arc

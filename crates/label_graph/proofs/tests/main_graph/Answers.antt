@@ -1,6 +1,6 @@
 use Rattle.std.proofs.Common.{◌≡◌, [], ◌∷◌, sym, subst, ◌∙◌, rules}
 use Rattle.label_graph.specs.Graph.{GraphValue, IsGraph}
-use Rattle.label_graph.specs.Rows.{two_pieces}
+use Rattle.label_graph.specs.Worked.{two_pieces}
 use Rattle.label_graph.proofs.WorkedGraph.{two_pieces-graph}
 use Rattle.label_graph.proofs.tests.main_graph.Goals as goal
 

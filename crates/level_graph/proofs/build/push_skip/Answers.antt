@@ -1,6 +1,6 @@
 use Rattle.std.proofs.Common.{◌≡◌, sym, rules, Some, None, ◌∙◌}
 use Rattle.label_graph.specs.declared.parts.Mark.TheVariants.{Loss}
-use Rattle.level_graph.specs.Layers.{skip_mark}
+use Rattle.level_graph.specs.inner.Layers.{skip_mark}
 use Rattle.level_graph.proofs.Pushes.{skip-step, step-skip, step-contained, appends-one, appends-none}
 use Rattle.level_graph.proofs.build.push_skip.Goals as goal
 

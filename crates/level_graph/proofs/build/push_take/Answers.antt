@@ -1,6 +1,6 @@
 use Rattle.std.proofs.Common.{◌≡◌, sym, arith, rules, Some, None, ◌∙◌}
 use Rattle.label_graph.specs.declared.parts.Mark.TheVariants.{Piece as Carries}
-use Rattle.level_graph.specs.Layers.{take_mark}
+use Rattle.level_graph.specs.inner.Layers.{take_mark}
 use Rattle.level_graph.proofs.Pushes.{here-low, take-is_step, step-is_take, step-contained, appends-one, appends-none}
 use Rattle.level_graph.proofs.build.push_take.Goals as goal
 

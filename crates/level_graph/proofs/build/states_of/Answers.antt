@@ -1,7 +1,7 @@
 use Rattle.std.proofs.Common.{◌≡◌, ℕ, ◌+◌, List, ◌++◌, [], ◌∷◌, length, refl, sym, ap, ◌∙◌, subst, arith}
 use Rattle.level_graph.specs.declared.states.State.{State}
 use Rattle.level_graph.specs.Levels.{target}
-use Rattle.level_graph.specs.Layers.{IsLayer, AreWeights}
+use Rattle.level_graph.specs.inner.Layers.{IsLayer, AreWeights}
 use Rattle.level_graph.proofs.SoFar.{SoFar, so_far-start, so_far-more, so_far-end}
 use Rattle.level_graph.proofs.build.states_of.Goals as goal
 

@@ -1,6 +1,6 @@
 use Rattle.std.proofs.Common.{◌≡◌, ℕ, ◌+◌, List, length, refl, subst, arith}
 use Rattle.level_graph.specs.declared.states.State.{State}
-use Rattle.level_graph.specs.Layers.{IsLayer, AreWeights}
+use Rattle.level_graph.specs.inner.Layers.{IsLayer, AreWeights}
 use Rattle.level_graph.proofs.Counting.{Counted, counted-start, counted-more, counted-end}
 use Rattle.level_graph.proofs.counts.level_counts.Goals as goal
 

@@ -1,7 +1,7 @@
 use Rattle.std.proofs.Common.{◌≡◌, length, take}
 use Rattle.std.specs.Prelude.{All}
 use Rattle.level_graph.specs.declared.states.State.{State}
-use Rattle.level_graph.specs.Layers.{entered}
+use Rattle.level_graph.specs.inner.Layers.{entered}
 use Rattle.level_graph.proofs.layers.entered_states.Given as goal
 
 abbrev pub invariant-loop-weight : goal.invariant-loop-weight

@@ -2,7 +2,7 @@ use Rattle.std.proofs.Common.{◌≡◌, [], ◌∷◌, ◌++◌, ◌<◌, lengt
 use Rattle.std.specs.Prelude.{AllPairs}
 use Rattle.std.proofs.lemmas.List.{length-append}
 use Rattle.level_graph.specs.Levels.{StateBefore}
-use Rattle.level_graph.specs.Layers.{entered}
+use Rattle.level_graph.specs.inner.Layers.{entered}
 use Rattle.level_graph.proofs.LayerSteps.{growing_stay, growing_push, growing_done, entered-ordered}
 use Rattle.level_graph.proofs.layers.layer_of.Goals as goal
 use Rattle.level_graph.proofs.layers.layer_of.Goals.{in-Some+in_ok-push, in_default}
