@@ -2,7 +2,7 @@
 use Rattle.std.proofs.Common.{◌≡◌, ℕ, ◌+◌, ◌<◌, List, length, ◌∙◌, ap, sym, subst, get_or}
 use Rattle.std.specs.Prelude.{All}
 use Rattle.std.proofs.lemmas.List.{length-map}
-use Rattle.packing_laws.specs.Instances.{InstanceValue, IsInstance, type_at}
+use Rattle.packing_laws.specs.Instances.{InstanceValue, IsInstance}
 use Rattle.packing_laws.specs.Packings.{Content, Fits, IsWithin}
 use Rattle.packing_laws.specs.Printed.{SameContent}
 use Rattle.label_graph.specs.declared.parts.GraphArc.{GraphArc}
@@ -12,6 +12,7 @@ use Rattle.level_graph.specs.declared.states.State.{State}
 use Rattle.level_graph.specs.LevelLaws.{ChoicesHaveOnePath}
 use Rattle.main_compress.specs.MainLaws.{MainGraphsKeepContents}
 use Rattle.final_compress.specs.FinalLaws.{FinalGraphsKeepContents}
+use Rattle.arc_compile.specs.Extended.{extended_capacity}
 use Rattle.arc_compile.specs.Exact.{content_along, HasPathOf}
 use Rattle.arc_compile.specs.Graphs.{AreTypeGraphs}
 use Rattle.arc_compile.specs.Pieces.{padded}
@@ -34,7 +35,7 @@ module _ (levels : ChoicesHaveOnePath) (mains : MainGraphsKeepContents) (finals 
   choice_path : (c : Content) → Fits I t c → IsWithin I c → HasPathOfChoice c
   choice_path c fits within =
       let pieces = types.mains.pieces in
-      let cap = padded N (type_at I t).cap in
+      let cap = padded N (extended_capacity I t) in
       let is = types.mains.level_is in
       let first = levels N pieces cap is.states level.arcs is.levels (choice_of pieces c) (is_choice I t known pieces types.mains.are_pieces c fits within) in
       let nodes : length is.states ≡ length level.labels = sym (length-map is.states (λ (s : State N). s.used)) ∙ ap length (sym is.labels_are) in

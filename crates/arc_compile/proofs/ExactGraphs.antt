@@ -11,6 +11,6 @@ pub final_graphs_are_exact : LevelGraphsAreGraphs → ChoicesHaveOnePath → Mai
 final_graphs_are_exact levels choices mains main_fit main_keep finals final_fit final_keep N I t level main final known among wide small types =
     let graphs = are_graphs levels mains finals N I t level main final known among wide small types in
     record {
-      fits = contents_fit main_fit final_fit N I t level main final among types graphs;
+      fits = contents_fit main_fit final_fit N I t level main final known among types graphs;
       covers = contents_covered choices main_keep final_keep N I t level main final known types graphs;
     }

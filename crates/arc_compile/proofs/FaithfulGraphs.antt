@@ -11,8 +11,9 @@ use Rattle.final_compress.specs.FinalLaws.{FinalGraphsAreGraphs}
 use Rattle.flow_graph.specs.declared.parts.TypeArc.{TypeArc}
 use Rattle.flow_graph.specs.Arcs.{TypeValue, flow_type}
 use Rattle.flow_graph.specs.Faithful.{IsPath as IsArcPath, unit_of, content_of}
-use Rattle.arc_compile.specs.declared.compiled.TypeSize.{TypeSize}
+use Rattle.arc_compile.specs.declared.results.TypeSize.{TypeSize}
 use Rattle.label_graph.specs.Graph.{IsPath}
+use Rattle.arc_compile.specs.Extended.{places_of}
 use Rattle.arc_compile.specs.Exact.{content_along}
 use Rattle.arc_compile.specs.Compiled.{IsCompiledType, type_arc, size_at}
 use Rattle.arc_compile.specs.CompileLaws.{FinalGraphsAreExact, CompiledGraphsAreFaithful}
@@ -26,13 +27,13 @@ record IsFaithfulType (I : InstanceValue) (t : ℕ) (x : TypeValue) : Type 0 whe
   covers : (c : Content) → Fits I t c → IsWithin I c → (path : List TypeArc) × IsArcPath x.arcs 1 x.nodes path × SameContent (content_of path) c
 
 module _ (levels : LevelGraphsAreGraphs) (mains : MainGraphsAreGraphs) (finals : FinalGraphsAreGraphs) (exact : FinalGraphsAreExact) where
-  faithful_type : (I : InstanceValue) (t : ℕ) (x : TypeValue) (size : TypeSize) → IsInstance I → IsAmong t (length I.types) → IsCompiledType I.dims I t x size → IsFaithfulType I t x
+  faithful_type : (I : InstanceValue) (t : ℕ) (x : TypeValue) (size : TypeSize) → IsInstance I → IsAmong t (length I.types) → IsCompiledType (places_of I) I t x size → IsFaithfulType I t x
   faithful_type I t x size known among h =
       let g = h.final in
-      let small : I.dims ≤ 32 = omega (arith, known.dims.1) in
-      let wide : I.dims ≤ I.dims = omega arith in
-      let graphs = are_graphs levels mains finals I.dims I t h.level h.main g known among wide small h.graphs in
-      let is = exact I.dims I t h.level h.main g known among wide small h.graphs in
+      let small : places_of I ≤ 32 = omega (arith, known.caps.room) in
+      let wide : places_of I ≤ places_of I = omega arith in
+      let graphs = are_graphs levels mains finals (places_of I) I t h.level h.main g known among wide small h.graphs in
+      let is = exact (places_of I) I t h.level h.main g known among wide small h.graphs in
       let each = graphs.pieces.each in
       let marks = graphs.final_graph.known in
       record {

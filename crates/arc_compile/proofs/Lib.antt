@@ -1,3 +1,7 @@
+pub mod ExtendedWeights
+pub mod OneCompiled
+pub mod PiecesExist
+pub mod SizesExist
 pub mod RankLemmas
 pub mod PieceLists
 pub mod Numbering

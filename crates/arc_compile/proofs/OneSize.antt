@@ -7,7 +7,7 @@ use Rattle.std.proofs.lemmas.Bool.{cases_lt, cases_order}
 use Rattle.std.proofs.lemmas.Cmp.{nat_cmp_total, nat_list_cmp_total, on_total, then_total, back_total, tied_itself}
 use Rattle.std.proofs.lemmas.List.Elements.{All-contains}
 use Rattle.std.proofs.lemmas.Map.Keys.{Less-from_sorted}
-use Rattle.packing_laws.specs.Instances.{InstanceValue, type_at}
+use Rattle.packing_laws.specs.Instances.{InstanceValue}
 use Rattle.label_graph.specs.declared.parts.Piece.{Piece}
 use Rattle.label_graph.specs.Graph.{GraphValue}
 use Rattle.level_graph.specs.declared.states.State.{State}
@@ -17,7 +17,8 @@ use Rattle.label_graph.proofs.OneImage.{same-list}
 use Rattle.main_compress.specs.MainGraphs.{IsMainGraph}
 use Rattle.main_compress.specs.MainLaws.{MainGraphsAreOne}
 use Rattle.arc_compile.specs.CompileLaws.{SizesAreOne}
-use Rattle.arc_compile.specs.Graphs.{HasMainArcs, HaveMainArcs, IsSmall, IsTooLarge}
+use Rattle.arc_compile.specs.Extended.{places_of, extended_capacity}
+use Rattle.arc_compile.specs.Graphs.{AreMainGraphs, HasMainArcs, HaveMainArcs, IsSmall, IsTooLarge}
 use Rattle.arc_compile.specs.Pieces.{padded, IsPiece, ArePieces, piece_cmp}
 
 module _ {N : ℕ} where
@@ -49,18 +50,23 @@ module _ {N : ℕ} where
       λ i. record { pieces = whole i; labels = labels i; arcs = same.1 i }
 
 module _ (levels_one : LevelsAreOne) (mains_one : MainGraphsAreOne) (I : InstanceValue) where
+  -- there is but one main graph of a type
+  pub one_main : (N t : ℕ) (level more main other : GraphValue N) → AreMainGraphs I t level main → AreMainGraphs I t more other → main ≡ other
+  one_main N t level more main other first second =
+      let room = padded N (extended_capacity I t) in
+      let pieces : second.pieces ≡ first.pieces = one_pieces I t second.pieces first.pieces second.are_pieces first.are_pieces in
+      let same : more ≡ level = one_level levels_one first.pieces room more level (subst (λ (ps : List (Piece N)). IsLevelGraph ps room more) pieces second.level_is) first.level_is in
+      mains_one N room level main other first.main_is (subst (λ (g : GraphValue N). IsMainGraph room g other) same second.main_is)
+
   one_main_arcs : (N t : ℕ) (arcs more : ℕ) → HasMainArcs N I t arcs → HasMainArcs N I t more → arcs ≡ more
   one_main_arcs N t arcs more first second =
-      let room = padded N (type_at I t).cap in
-      let pieces : second.mains.pieces ≡ first.mains.pieces = one_pieces I t second.mains.pieces first.mains.pieces second.mains.are_pieces first.mains.are_pieces in
-      let level : second.level ≡ first.level = one_level levels_one first.mains.pieces room second.level first.level (subst (λ (ps : List (Piece N)). IsLevelGraph ps room second.level) pieces second.mains.level_is) first.mains.level_is in
-      let main : first.main ≡ second.main = mains_one N room first.level first.main second.main first.mains.main_is (subst (λ (g : GraphValue N). IsMainGraph room g second.main) level second.mains.main_is) in
+      let main : first.main ≡ second.main = one_main N t first.level second.level first.main second.main first.mains second.mains in
       first.arcs_are ∙ (ap (λ (g : GraphValue N). length g.arcs) main ∙ sym second.arcs_are)
 
   -- the first types have but one number of arcs
   pub one_sum : (t arcs more : ℕ) → HaveMainArcs I t arcs → HaveMainArcs I t more → arcs ≡ more
   one_sum zero arcs more first second = first ∙ sym second
-  one_sum (suc t) arcs more first second = omega (arith, first.4, second.4, one_sum t first.0 second.0 first.2 second.2, one_main_arcs I.dims (suc t) first.1 second.1 first.3 second.3)
+  one_sum (suc t) arcs more first second = omega (arith, first.4, second.4, one_sum t first.0 second.0 first.2 second.2, one_main_arcs (places_of I) (suc t) first.1 second.1 first.3 second.3)
 
   -- which rises from type to type
   pub sums-rise : (t s arcs more : ℕ) → t ≤ s → HaveMainArcs I t arcs → HaveMainArcs I s more → arcs ≤ more

@@ -1,7 +1,7 @@
--- The graphs of a type in more places than there are dimensions are those in as many.
+-- The graphs of a type in more places than extended weights have are those in as many.
 use Rattle.std.proofs.Common.{◌≡◌, ℕ, zero, suc, ◌-◌, ◌≤◌, List, [], ◌∷◌, length, get_or, map, take, refl, sym, ◌∙◌, subst}
 use Rattle.std.proofs.lemmas.List.{length-map}
-use Rattle.packing_laws.specs.Instances.{InstanceValue, IsInstance, IsAmong, type_at}
+use Rattle.packing_laws.specs.Instances.{InstanceValue, IsInstance, IsAmong}
 use Rattle.label_graph.specs.declared.parts.GraphArc.{GraphArc}
 use Rattle.label_graph.specs.declared.parts.Mark.{Mark}
 use Rattle.label_graph.specs.declared.parts.Mark.TheVariants.{Loss, Piece as Carries}
@@ -13,16 +13,18 @@ use Rattle.main_compress.specs.MainGraphs.{IsMainGraph}
 use Rattle.main_compress.specs.MainLaws.{IsRoomFor, MainGraphsAreGraphs, CutsKeepMainGraphs}
 use Rattle.final_compress.specs.FinalLaws.{CutsKeepFinalGraphs}
 use Rattle.flow_graph.specs.Arcs.{TypeValue}
-use Rattle.arc_compile.specs.declared.compiled.TypeSize.{TypeSize}
+use Rattle.arc_compile.specs.declared.results.TypeSize.{TypeSize}
 use Rattle.arc_compile.specs.Compiled.{IsNumberedType, AreSizes, IsCompiledType, type_arc}
 use Rattle.arc_compile.specs.CompileLaws.{PaddingKeepsGraphs}
 use Rattle.arc_compile.specs.Exact.{marked_item, marked_form}
 use Rattle.arc_compile.specs.Graphs.{AreMainGraphs, HasMainArcs}
+use Rattle.arc_compile.specs.Extended.{places_of, extended_capacity}
 use Rattle.arc_compile.specs.Pieces.{padded}
 use Rattle.arc_compile.proofs.CutPieces.{padded-padded, are_pieces-cut}
 use Rattle.arc_compile.proofs.PaddedLevels.{room-cut, is_cut_level, level_size-cut}
 use Rattle.arc_compile.proofs.PieceNumbers.{pieces_are_list}
-use Rattle.arc_compile.proofs.WeighedPieces.{cap_known, are_weighed}
+use Rattle.arc_compile.proofs.ExtendedWeights.{capacity_vector}
+use Rattle.arc_compile.proofs.WeighedPieces.{are_weighed}
 
 module _ {N : ℕ} (n : ℕ) (pieces : List (Piece N)) where
   item-cut : (m : Mark) → marked_item (map (cut_piece n) pieces) m ≡ marked_item pieces m
@@ -74,55 +76,55 @@ module _ {N : ℕ} (n : ℕ) where
         final_arcs = h.final_arcs;
       }
 
--- a main graph with padded weights and labels, which cut is the main graph in the instance's own dimensions
+-- a main graph with padded weights and labels, which cut is the main graph in as many places as extended weights have
 pub record IsCutMain {N : ℕ} (I : InstanceValue) (t : ℕ) (level main : GraphValue N) : Type 0 where
   pub graph : IsGraph N main
-  pub padded_is : IsPaddedGraph I.dims main
-  pub cut : AreMainGraphs I t (cut_graph I.dims level) (cut_graph I.dims main)
+  pub padded_is : IsPaddedGraph (places_of I) main
+  pub cut : AreMainGraphs I t (cut_graph (places_of I) level) (cut_graph (places_of I) main)
 
-module _ (cut_levels : CutsKeepLevelGraphs) (level_graphs : LevelGraphsAreGraphs) (cut_mains : CutsKeepMainGraphs) (main_graphs : MainGraphsAreGraphs) (N : ℕ) (I : InstanceValue) (t : ℕ) (known : IsInstance I) (among : IsAmong t (length I.types)) (wide : I.dims ≤ N) (small : N ≤ 32) where
+module _ (cut_levels : CutsKeepLevelGraphs) (level_graphs : LevelGraphsAreGraphs) (cut_mains : CutsKeepMainGraphs) (main_graphs : MainGraphsAreGraphs) (N : ℕ) (I : InstanceValue) (t : ℕ) (known : IsInstance I) (among : IsAmong t (length I.types)) (wide : places_of I ≤ N) (small : N ≤ 32) where
   is_cut_main : (level main : GraphValue N) → AreMainGraphs I t level main → IsCutMain I t level main
   is_cut_main level main h =
-      let room = padded N (type_at I t).cap in
-      let full = padded-padded I.dims N (type_at I t).cap (cap_known I t known among).size in
+      let room = padded N (extended_capacity I t) in
+      let full = padded-padded (places_of I) N (extended_capacity I t) (capacity_vector I known t among).size in
       let weighed = are_weighed I t known among wide small h.pieces h.are_pieces.each in
       let within = level_graphs N h.pieces room level (pieces_are_list I t known among h.pieces h.are_pieces) weighed h.level_is in
       let holds : IsRoomFor room level = record { sized = weighed.sized; ranged = weighed.ranged; fits = within.fits } in
       let low = is_cut_level cut_levels N I t known among wide small h.pieces level h.are_pieces h.level_is in
-      let kept = cut_mains N I.dims room level main wide within.graph holds full low.padded_is h.main_is in
+      let kept = cut_mains N (places_of I) room level main wide within.graph holds full low.padded_is h.main_is in
       record {
         graph = main_graphs N room level main within.graph holds h.main_is;
         padded_is = kept.padded;
         cut = record {
-          pieces = map (cut_piece I.dims) h.pieces;
+          pieces = map (cut_piece (places_of I)) h.pieces;
           are_pieces = are_pieces-cut I t known wide h.pieces h.are_pieces;
           level_is = low.cut;
-          main_is = subst (λ (w : List ℕ). IsMainGraph w (cut_graph I.dims level) (cut_graph I.dims main)) (room-cut cut_levels N I t known among wide small) kept.cut;
+          main_is = subst (λ (w : List ℕ). IsMainGraph w (cut_graph (places_of I) level) (cut_graph (places_of I) main)) (room-cut cut_levels N I t known among wide small) kept.cut;
         };
       }
 
-  -- the main graph has as many arcs in the instance's own dimensions
-  pub main_arcs-cut : (arcs : ℕ) → HasMainArcs N I t arcs → HasMainArcs I.dims I t arcs
+  -- the main graph has as many arcs in as many places as extended weights have
+  pub main_arcs-cut : (arcs : ℕ) → HasMainArcs N I t arcs → HasMainArcs (places_of I) I t arcs
   main_arcs-cut arcs h =
       record {
-        level = cut_graph I.dims h.level;
-        main = cut_graph I.dims h.main;
+        level = cut_graph (places_of I) h.level;
+        main = cut_graph (places_of I) h.main;
         mains = (is_cut_main h.level h.main h.mains).cut;
         arcs_are = h.arcs_are;
       }
 
-  -- the type is compiled to the same in the instance's own dimensions
-  pub compiled_type-cut : CutsKeepFinalGraphs → (x : TypeValue) (size : TypeSize) → IsCompiledType N I t x size → IsCompiledType I.dims I t x size
+  -- the type is compiled to the same in as many places as extended weights have
+  pub compiled_type-cut : CutsKeepFinalGraphs → (x : TypeValue) (size : TypeSize) → IsCompiledType N I t x size → IsCompiledType (places_of I) I t x size
   compiled_type-cut cut_finals x size h =
       let high = is_cut_main h.level h.main h.graphs.mains in
-      let kept = cut_finals N I.dims h.main h.final wide high.graph high.padded_is h.graphs.final_is in
+      let kept = cut_finals N (places_of I) h.main h.final wide high.graph high.padded_is h.graphs.final_is in
       record {
-        level = cut_graph I.dims h.level;
-        main = cut_graph I.dims h.main;
-        final = cut_graph I.dims h.final;
+        level = cut_graph (places_of I) h.level;
+        main = cut_graph (places_of I) h.main;
+        final = cut_graph (places_of I) h.final;
         graphs = record { mains = high.cut; final_is = kept.cut };
-        numbered = numbered-cut I.dims h.final x h.numbered;
-        sizes = sizes-cut I.dims h.main h.final size h.sizes;
+        numbered = numbered-cut (places_of I) h.final x h.numbered;
+        sizes = sizes-cut (places_of I) h.main h.final size h.sizes;
       }
 
 pub padding_keeps_graphs : CutsKeepLevelGraphs → LevelGraphsAreGraphs → CutsKeepMainGraphs → MainGraphsAreGraphs → CutsKeepFinalGraphs → PaddingKeepsGraphs

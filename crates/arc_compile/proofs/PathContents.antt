@@ -1,18 +1,19 @@
 -- What the arcs of a path carry, as a content.
-use Rattle.std.proofs.Common.{◌≡◌, ℕ, ◌+◌, ◌-◌, ◌*◌, ◌<◌, List, [], ◌∷◌, length, ap, ap₂, refl, ◌∙◌, arith, get_or, slice_index}
+use Rattle.std.proofs.Common.{◌≡◌, ℕ, ◌+◌, ◌-◌, ◌*◌, ◌<◌, List, [], ◌∷◌, length, ap, ap₂, refl, ◌∙◌, arith, get_or}
 use Rattle.std.specs.Prelude.{All}
 use Rattle.std.proofs.lemmas.List.{get_or-map}
 use Rattle.std.proofs.lemmas.List.Elements.{All-nil, All-cons, All-head, All-tail, All-contains}
 use Rattle.std.proofs.lemmas.List.Sums.{sum_by-cons}
 use Rattle.packing_laws.specs.declared.packings.Count.{Count}
-use Rattle.packing_laws.specs.Instances.{InstanceValue, form_at}
-use Rattle.packing_laws.specs.Packings.{Content, Exists, weight_in}
+use Rattle.packing_laws.specs.Instances.{InstanceValue}
+use Rattle.packing_laws.specs.Packings.{Content, Exists}
 use Rattle.weight_vec.proofs.Places.{get_or-padded}
 use Rattle.label_graph.specs.declared.parts.GraphArc.{GraphArc}
 use Rattle.label_graph.specs.declared.parts.Mark.{Mark}
 use Rattle.label_graph.specs.declared.parts.Mark.TheVariants.{Loss, Piece as Carries}
 use Rattle.label_graph.specs.declared.parts.Piece.{Piece}
 use Rattle.label_graph.specs.Graph.{IsKnown, IsPath, mark_weight, weight_in as path_weight}
+use Rattle.arc_compile.specs.Extended.{extended_in, extended_weight}
 use Rattle.arc_compile.specs.Exact.{marked_item, marked_form, with_mark, content_along}
 use Rattle.arc_compile.specs.Pieces.{IsPiece}
 
@@ -64,17 +65,16 @@ module _ {N : ℕ} (I : InstanceValue) (t : ℕ) (pieces : List (Piece N)) (each
   mark-exists Loss c h exists = exists
   mark-exists (Carries p) c h exists = All-cons (Exists I) (unit_at pieces p) c (unit-exists p h) exists
 
-  mark-weighs : (d : ℕ) (m : Mark) (c : Content) → IsKnown pieces m → weight_in I (d + 1) (with_mark pieces m c) ≡ get_or (mark_weight pieces m) d 0 + weight_in I (d + 1) c
+  mark-weighs : (d : ℕ) (m : Mark) (c : Content) → IsKnown pieces m → extended_in I d (with_mark pieces m c) ≡ get_or (mark_weight pieces m) d 0 + extended_in I d c
   mark-weighs d Loss c h = omega arith
   mark-weighs d (Carries p) c h =
       let n = unit_at pieces p in
       let q = piece_at pieces p in
       let is : IsPiece I t q = piece-known p h in
-      let whole : weight_in I (d + 1) (n ∷ c) ≡ 1 * get_or (form_at I n.item n.form) (d + 1 - 1) 0 + weight_in I (d + 1) c = sum_by-cons (λ (m : Count). m.count * slice_index (form_at I m.item m.form) (d + 1 - 1)) n c in
-      let e : d + 1 - 1 ≡ d = omega arith in
-      let form : form_at I n.item n.form ≡ form_at I q.item q.form = ap₂ (form_at I) (item-at pieces p h) (form-at pieces p h) in
-      let unit : get_or (form_at I n.item n.form) (d + 1 - 1) 0 ≡ get_or (form_at I q.item q.form) d 0 = ap₂ (λ (v : List ℕ) (k : ℕ). get_or v k 0) form e in
-      let weight : get_or (mark_weight pieces (Carries p)) d 0 ≡ get_or (form_at I q.item q.form) d 0 = ap (λ (w : List ℕ). get_or w d 0) (weight-at pieces p h ∙ is.weighs) ∙ get_or-padded (form_at I q.item q.form) (N - length (form_at I q.item q.form)) d in
+      let whole : extended_in I d (n ∷ c) ≡ 1 * get_or (extended_weight I n.item n.form) d 0 + extended_in I d c = sum_by-cons (λ (m : Count). m.count * get_or (extended_weight I m.item m.form) d 0) n c in
+      let form : extended_weight I n.item n.form ≡ extended_weight I q.item q.form = ap₂ (extended_weight I) (item-at pieces p h) (form-at pieces p h) in
+      let unit : get_or (extended_weight I n.item n.form) d 0 ≡ get_or (extended_weight I q.item q.form) d 0 = ap (λ (v : List ℕ). get_or v d 0) form in
+      let weight : get_or (mark_weight pieces (Carries p)) d 0 ≡ get_or (extended_weight I q.item q.form) d 0 = ap (λ (w : List ℕ). get_or w d 0) (weight-at pieces p h ∙ is.weighs) ∙ get_or-padded (extended_weight I q.item q.form) (N - length (extended_weight I q.item q.form)) d in
       omega arith
 
   -- the forms along a path exist
@@ -85,8 +85,8 @@ module _ {N : ℕ} (I : InstanceValue) (t : ℕ) (pieces : List (Piece N)) (each
       (All-head (λ (x : GraphArc). IsKnown pieces x.mark) e path known)
       (content-exists path (All-tail (λ (x : GraphArc). IsKnown pieces x.mark) e path known))
 
-  -- a content weighs as its path, whose dimensions count from 0
-  pub content-weighs : (d : ℕ) (path : List GraphArc) → All (λ e. IsKnown pieces e.mark) path → weight_in I (d + 1) (content_along pieces path) ≡ path_weight pieces d path
+  -- a content weighs as its path
+  pub content-weighs : (d : ℕ) (path : List GraphArc) → All (λ e. IsKnown pieces e.mark) path → extended_in I d (content_along pieces path) ≡ path_weight pieces d path
   content-weighs d [] known = refl
   content-weighs d (e ∷ path) known =
       let first = mark-weighs d e.mark (content_along pieces path) (All-head (λ (x : GraphArc). IsKnown pieces x.mark) e path known) in

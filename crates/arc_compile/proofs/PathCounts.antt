@@ -16,12 +16,13 @@ use Rattle.label_graph.specs.declared.parts.Mark.{Mark}
 use Rattle.label_graph.specs.declared.parts.Mark.TheVariants.{Loss, Piece as Carries}
 use Rattle.label_graph.specs.declared.parts.Piece.{Piece}
 use Rattle.label_graph.specs.Graph.{IsKnown, mark_copies, copies_along}
+use Rattle.arc_compile.specs.Extended.{extended_weight}
 use Rattle.arc_compile.specs.Exact.{with_mark, content_along}
 use Rattle.arc_compile.specs.Pieces.{padded, IsPiece, ArePieces}
 use Rattle.arc_compile.proofs.PathContents.{no_piece, piece_at, unit_at, item-at, form-at}
 use Rattle.arc_compile.proofs.PieceChoices.{AreApart, choice_of}
 use Rattle.arc_compile.proofs.PieceNumbers.{pieces-apart}
-use Rattle.arc_compile.proofs.WeighedPieces.{form_vector}
+use Rattle.arc_compile.proofs.ExtendedWeights.{form_vector}
 
 -- the count is of this form
 abbrev is_form : ℕ → ℕ → Count → Bool
@@ -120,7 +121,7 @@ module _ {N : ℕ} (I : InstanceValue) (t : ℕ) (known : IsInstance I) (pieces 
       let exists = fits.exists k d lt in
       let v = form_at I n.item n.form in
       let cap = (type_at I t).cap in
-      let size = (form_vector I n.item n.form known exists.item exists.form).size in
+      let size = (form_vector I known n.item n.form exists.item exists.form).size in
       let asked : cond (n.item == n.item) n.count 0 ≤ count_of_item n.item c = get_or-le-sum_by (λ (m : Count). cond (m.item == n.item) m.count 0) c k d lt in
       let own : cond (n.item == n.item) n.count 0 ≡ n.count = cond-true (n.item == n.item) n.count 0 (eq-eqb n.item n.item refl) in
       let demand : 0 < (item_at I n.item).demand = omega (arith, within n.item exists.item) in
@@ -134,7 +135,7 @@ module _ {N : ℕ} (I : InstanceValue) (t : ℕ) (known : IsInstance I) (pieces 
       let one : 1 * get_or v j 0 ≤ n.count * get_or v j 0 = mul-le-mul_right (get_or v j 0) some in
       omega arith
       in
-      let q : Piece N = record { item = n.item; form = n.form; weight = padded N v; copies = (item_at I n.item).demand } in
+      let q : Piece N = record { item = n.item; form = n.form; weight = padded N (extended_weight I n.item n.form); copies = (item_at I n.item).demand } in
       let is : IsPiece I t q = record { item_is = exists.item; form_is = exists.form; demanded = demand; fits = vector_fits-from v cap each; weighs = refl; copied = refl } in
       (q, are.all q is, refl, refl)
 

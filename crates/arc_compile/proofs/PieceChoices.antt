@@ -1,22 +1,23 @@
 -- A content that fits a type and is within the demands is a choice of pieces.
 use Rattle.std.proofs.Common.{zero, suc, ◌≡◌, ℕ, ◌+◌, ◌-◌, ◌*◌, ◌≤◌, ⊎_elim, Bool, true, false, cond, ◌==◌, ◌&&◌, List, [], ◌∷◌, length, map, sum_by, ap, ap₂, sym, refl, ◌∙◌, arith, get_or}
 use Rattle.std.specs.Prelude.{All, AllPairs}
-use Rattle.std.proofs.lemmas.Bool.{cases_lt, cases_Bool, and_parts, eqb-true, cond-true, cond-false, false_from_ne_true}
-use Rattle.std.proofs.lemmas.List.{get_or-map, length-map, get_or_past}
+use Rattle.std.proofs.lemmas.Bool.{cases_Bool, and_parts, eqb-true, cond-true, cond-false, false_from_ne_true}
+use Rattle.std.proofs.lemmas.List.{get_or-map, length-map}
 use Rattle.std.proofs.lemmas.List.Sums.{sum_by-cons, sum_by-le, sum_by-le-sum_by}
 use Rattle.std.proofs.Math.Nat.{add-mul}
 use Rattle.packing_laws.specs.declared.packings.Count.{Count}
-use Rattle.packing_laws.specs.Instances.{InstanceValue, IsInstance, type_at, item_at, form_at}
-use Rattle.packing_laws.specs.Packings.{Content, Fits, IsWithin, count_of_item, count_of_form, weight_in}
+use Rattle.packing_laws.specs.Instances.{InstanceValue, IsInstance, item_at}
+use Rattle.packing_laws.specs.Packings.{Content, Fits, IsWithin, count_of_item, count_of_form}
 use Rattle.packing_laws.proofs.Sums.{sum_by-le-sum_by as sum-le_each}
 use Rattle.weight_vec.proofs.Places.{get_or-padded}
 use Rattle.label_graph.specs.declared.parts.Piece.{Piece}
 use Rattle.level_graph.specs.Levels.{piece_copies}
 use Rattle.level_graph.specs.LevelLaws.{content_weight, IsChoice}
+use Rattle.arc_compile.specs.Extended.{extended_in, extended_weight, extended_capacity}
 use Rattle.arc_compile.specs.Pieces.{padded, IsPiece, ArePieces}
 use Rattle.arc_compile.proofs.PathContents.{no_piece}
 use Rattle.arc_compile.proofs.PieceNumbers.{pieces-apart}
-use Rattle.arc_compile.proofs.WeighedPieces.{form_vector}
+use Rattle.arc_compile.proofs.ExtendedWeights.{within_capacity}
 
 -- two pieces are of different forms
 abbrev pub AreApart : {N : ℕ} → Piece N → Piece N → Type 0
@@ -112,14 +113,13 @@ choice-weight {N} number d (q ∷ pieces) =
 
 module _ {N : ℕ} (I : InstanceValue) (t : ℕ) (known : IsInstance I) (pieces : List (Piece N)) (are : ArePieces I t pieces) where
   -- a piece weighs as its form
-  piece-weighs : (q : Piece N) → IsPiece I t q → (d : ℕ) → get_or q.weight d 0 ≡ get_or (form_at I q.item q.form) d 0
-  piece-weighs q h d = ap (λ (v : List ℕ). get_or v d 0) h.weighs ∙ get_or-padded (form_at I q.item q.form) (N - length (form_at I q.item q.form)) d
+  piece-weighs : (q : Piece N) → IsPiece I t q → (d : ℕ) → get_or q.weight d 0 ≡ get_or (extended_weight I q.item q.form) d 0
+  piece-weighs q h d = ap (λ (v : List ℕ). get_or v d 0) h.weighs ∙ get_or-padded (extended_weight I q.item q.form) (N - length (extended_weight I q.item q.form)) d
 
   -- a choice weighs no more than its content
-  choice-le_content : (d : ℕ) (c : Content) → content_weight pieces d (choice_of pieces c) ≤ weight_in I (d + 1) c
+  choice-le_content : (d : ℕ) (c : Content) → content_weight pieces d (choice_of pieces c) ≤ extended_in I d c
   choice-le_content d c =
-      let e : d ≡ d + 1 - 1 = omega arith in
-      let w : ℕ → ℕ → ℕ = λ i f. get_or (form_at I i f) d 0 in
+      let w : ℕ → ℕ → ℕ = λ i f. get_or (extended_weight I i f) d 0 in
       let number : Piece N → ℕ = λ q. count_of_form q.item q.form c in
       let choice : content_weight pieces d (choice_of pieces c) ≡ sum_by (λ q. number q * get_or q.weight d 0) pieces = choice-weight number d pieces in
       let forms : sum_by (λ q. number q * get_or q.weight d 0) pieces ≤ sum_by (λ q. number q * w q.item q.form) pieces = sum-le_each (λ (q : Piece N). number q * get_or q.weight d 0) (λ (q : Piece N). number q * w q.item q.form) pieces (
@@ -129,26 +129,9 @@ module _ {N : ℕ} (I : InstanceValue) (t : ℕ) (known : IsInstance I) (pieces 
       omega arith
       ) in
       let spread : sum_by (λ q. number q * w q.item q.form) pieces ≤ sum_by (λ n. n.count * w n.item n.form) c = counts-le w c pieces (pieces-apart I t pieces are) in
-      let whole : sum_by (λ (n : Count). n.count * w n.item n.form) c ≡ weight_in I (d + 1) c = ap (λ (k : ℕ). sum_by (λ (n : Count). n.count * get_or (form_at I n.item n.form) k 0) c) e in
       omega arith
 
-  -- past the dimensions a choice weighs nothing
-  choice-past : (d : ℕ) (c : Content) → I.dims ≤ d → content_weight pieces d (choice_of pieces c) ≡ 0
-  choice-past d c past =
-      let number : Piece N → ℕ = λ q. count_of_form q.item q.form c in
-      let choice : content_weight pieces d (choice_of pieces c) ≡ sum_by (λ q. number q * get_or q.weight d 0) pieces = choice-weight number d pieces in
-      let none : sum_by (λ q. number q * get_or q.weight d 0) pieces ≡ 0 = sum-none (λ (q : Piece N). number q * get_or q.weight d 0) pieces (
-      λ k x lt.
-      let q = get_or pieces k x in
-      let is = are.each k x lt in
-      let form = form_vector I q.item q.form known is.item_is is.form_is in
-      let end : get_or (form_at I q.item q.form) d 0 ≡ 0 = get_or_past (form_at I q.item q.form) d 0 (omega (arith, form.size)) in
-      let nothing : number q * get_or q.weight d 0 ≡ number q * 0 = ap (λ (m : ℕ). number q * m) (piece-weighs q is d ∙ end) in
-      omega arith
-      ) in
-      omega arith
-
-  pub is_choice : (c : Content) → Fits I t c → IsWithin I c → IsChoice pieces (padded N (type_at I t).cap) (choice_of pieces c)
+  pub is_choice : (c : Content) → Fits I t c → IsWithin I c → IsChoice pieces (padded N (extended_capacity I t)) (choice_of pieces c)
   is_choice c fits within = record {
     whole = length-map pieces (λ (q : Piece N). count_of_form q.item q.form c);
     copies = λ p lt.
@@ -162,15 +145,7 @@ module _ {N : ℕ} (I : InstanceValue) (t : ℕ) (known : IsInstance I) (pieces 
         let same : get_or (map (λ (r : Piece N). r.copies) pieces) p 0 ≡ piece_copies pieces (p + 1) = ap (λ (k : ℕ). get_or (map (λ (r : Piece N). r.copies) pieces) k 0) e in
         omega (arith, is.copied);
     fits = λ d.
-        let cap = (type_at I t).cap in
+        let cap = extended_capacity I t in
         let room : get_or (padded N cap) d 0 ≡ get_or cap d 0 = get_or-padded cap (N - length cap) d in
-        ⊎_elim
-        (λ lt.
-        let e : d + 1 - 1 ≡ d = omega arith in
-        let weight : weight_in I (d + 1) c ≤ get_or cap (d + 1 - 1) 0 = fits.weight (d + 1) (omega arith, omega arith) in
-        let same : get_or cap (d + 1 - 1) 0 ≡ get_or cap d 0 = ap (λ (k : ℕ). get_or cap k 0) e in
-        let choice = choice-le_content d c in
-        omega arith)
-        (λ ge. let none = choice-past d c ge in omega arith)
-        (cases_lt d I.dims);
+        omega (arith, choice-le_content d c, within_capacity I known t fits.bin_type c fits d);
   }

@@ -9,9 +9,10 @@ use Rattle.std.proofs.lemmas.Map.Keys.{IsDistinct-from_apart, Less-from_sorted}
 use Rattle.std.proofs.lemmas.Map.Steps.{length-le_from_distinct_below}
 use Rattle.std.proofs.lemmas.Map.Views.{Contains-from_any}
 use Rattle.packing_laws.specs.declared.instances.Item.{Item}
-use Rattle.packing_laws.specs.Instances.{InstanceValue, IsInstance, IsAmong, type_at, item_at}
+use Rattle.packing_laws.specs.Instances.{InstanceValue, IsInstance, IsAmong, item_at}
 use Rattle.label_graph.specs.declared.parts.Piece.{Piece}
 use Rattle.level_graph.specs.Levels.{IsPieceList}
+use Rattle.arc_compile.specs.Extended.{extended_capacity}
 use Rattle.arc_compile.proofs.PieceLists.{apart}
 use Rattle.arc_compile.specs.Pieces.{padded, IsPiece, ArePieces, piece_cmp}
 use Rattle.arc_compile.proofs.PieceLists.{is_piece_list}
@@ -79,7 +80,7 @@ module _ {N : ℕ} (I : InstanceValue) (t : ℕ) where
   pieces-apart pieces h i j d lt in_range = apart I t (get_or pieces i d) (get_or pieces j d) (h.each i d (omega arith)) (h.each j d in_range) (Less-from_sorted piece_cmp pieces i j d h.order lt in_range)
 
   -- the pieces of a type are what a level graph is made of
-  pub pieces_are_list : IsInstance I → IsAmong t (length I.types) → (pieces : List (Piece N)) → ArePieces I t pieces → IsPieceList pieces (padded N (type_at I t).cap)
+  pub pieces_are_list : IsInstance I → IsAmong t (length I.types) → (pieces : List (Piece N)) → ArePieces I t pieces → IsPieceList pieces (padded N (extended_capacity I t))
   pieces_are_list known among pieces h =
       let few = pieces-le_forms pieces h.each (pieces-apart pieces h) in
       is_piece_list I t known among pieces (omega (arith, known.form_count)) h

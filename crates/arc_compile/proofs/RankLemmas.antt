@@ -13,8 +13,9 @@ use Rattle.packing_laws.specs.declared.instances.Item.{Item}
 use Rattle.packing_laws.specs.Floors.{vector_fits}
 use Rattle.packing_laws.specs.Instances.{InstanceValue, type_at, item_at}
 use Rattle.arc_compile.specs.declared.ranks.Ranked.{Ranked}
+use Rattle.arc_compile.specs.Extended.{counted_by_caps}
 use Rattle.arc_compile.specs.Pieces.{padded, IsPiece, ArePieces, piece_cmp}
-use Rattle.arc_compile.specs.Ranks.{form_of, IsRankedOf, AddsForms, IsRanked, AreRanked, rank_cmp, piece_from, pieces_from, forms_of}
+use Rattle.arc_compile.specs.inner.Ranks.{form_of, IsRankedOf, AddsForms, IsRanked, AreRanked, rank_cmp, piece_from, pieces_from, forms_of}
 
 -- a form by its place
 pub form_by_place : (x : Item) (f : ℕ) (v : List ℕ) → f < length x.forms → v ≡ get_or x.forms f v → form_of x (f + 1) ≡ v
@@ -35,59 +36,59 @@ item_by_place I i x lt e =
     ap (λ (k : ℕ). get_or I.items k (record { demand = 0; forms = [] })) n ∙ (get_or_default I.items i (record { demand = 0; forms = [] }) x lt ∙ sym e)
 
 module _ {N : ℕ} where
-  more_forms : (i : ℕ) (x : Item) (cap : List ℕ) (f : ℕ) (r : Ranked N) → IsRankedOf i x cap f r → IsRankedOf i x cap (f + 1) r
-  more_forms i x cap f r h = record { item_is = h.item_is; form_is = (h.form_is.0, omega (arith, h.form_is.1)); fits = h.fits; weighs = h.weighs }
+  more_forms : (i : ℕ) (x : Item) (cap further : List ℕ) (f : ℕ) (r : Ranked N) → IsRankedOf i x cap further f r → IsRankedOf i x cap further (f + 1) r
+  more_forms i x cap further f r h = record { item_is = h.item_is; form_is = (h.form_is.0, omega (arith, h.form_is.1)); fits = h.fits; weighs = h.weighs }
 
-  fewer_forms : (i : ℕ) (x : Item) (cap : List ℕ) (f : ℕ) (r : Ranked N) → r.form ≤ f → IsRankedOf i x cap (f + 1) r → IsRankedOf i x cap f r
-  fewer_forms i x cap f r l h = record { item_is = h.item_is; form_is = (h.form_is.0, l); fits = h.fits; weighs = h.weighs }
+  fewer_forms : (i : ℕ) (x : Item) (cap further : List ℕ) (f : ℕ) (r : Ranked N) → r.form ≤ f → IsRankedOf i x cap further (f + 1) r → IsRankedOf i x cap further f r
+  fewer_forms i x cap further f r l h = record { item_is = h.item_is; form_is = (h.form_is.0, l); fits = h.fits; weighs = h.weighs }
 
   -- ranks of equal parts are equal
-  same_rank : (p q : Ranked N) → p.weight.0 ≡ q.weight.0 → p.item ≡ q.item → p.form ≡ q.form → p ≡ q
+  pub same_rank : (p q : Ranked N) → p.weight.0 ≡ q.weight.0 → p.item ≡ q.item → p.form ≡ q.form → p ≡ q
   same_rank p q w i f = λ k. record { weight = record { 0 = w k }; item = i k; form = f k }
 
   -- one more form that fits
-  pub forms_push : (i : ℕ) (x : Item) (cap : List ℕ) (f : ℕ) (old new : List (Ranked N)) (rank : Ranked N) → vector_fits (form_of x (f + 1)) cap ≡ true → rank.item ≡ i → rank.form ≡ f + 1 → rank.weight.0 ≡ padded N (form_of x (f + 1)) → AddsForms i x cap f old new → AddsForms i x cap (f + 1) old (new ++ rank ∷ [])
-  forms_push i x cap f old new rank fits ri rf rw h r = (
+  pub forms_push : (i : ℕ) (x : Item) (cap further : List ℕ) (f : ℕ) (old new : List (Ranked N)) (rank : Ranked N) → vector_fits (form_of x (f + 1)) cap ≡ true → rank.item ≡ i → rank.form ≡ f + 1 → rank.weight.0 ≡ padded N (form_of x (f + 1) ++ further) → AddsForms i x cap further f old new → AddsForms i x cap further (f + 1) old (new ++ rank ∷ [])
+  forms_push i x cap further f old new rank fits ri rf rw h r = (
     λ m. ⊎_elim
-        (λ before. ⊎_elim (λ o. inl o) (λ k. inr (more_forms i x cap f r k)) ((h r).0 before))
-        (λ e. inr (subst (λ (q : Ranked N). IsRankedOf i x cap (f + 1) q) e is_new))
+        (λ before. ⊎_elim (λ o. inl o) (λ k. inr (more_forms i x cap further f r k)) ((h r).0 before))
+        (λ e. inr (subst (λ (q : Ranked N). IsRankedOf i x cap further (f + 1) q) e is_new))
         (Contains-push_cases new rank r m),
     λ m. ⊎_elim
         (λ o. Contains-append_left new (rank ∷ []) r ((h r).1 (inl o)))
         (λ k. ⊎_elim
         (λ lt. subst (λ (q : Ranked N). Contains (new ++ rank ∷ []) q) (at_new k lt) (Contains-push new rank))
-        (λ le. Contains-append_left new (rank ∷ []) r ((h r).1 (inr (fewer_forms i x cap f r le k))))
+        (λ le. Contains-append_left new (rank ∷ []) r ((h r).1 (inr (fewer_forms i x cap further f r le k))))
         (cases_lt f r.form))
         m,
   )
     where
-      is_new : IsRankedOf i x cap (f + 1) rank
+      is_new : IsRankedOf i x cap further (f + 1) rank
       is_new = record {
         item_is = ri;
         form_is = (omega (arith, rf), omega (arith, rf));
         fits = subst (λ (g : ℕ). vector_fits (form_of x g) cap ≡ true) (sym rf) fits;
-        weighs = subst (λ (g : ℕ). rank.weight.0 ≡ padded N (form_of x g)) (sym rf) rw;
+        weighs = subst (λ (g : ℕ). rank.weight.0 ≡ padded N (form_of x g ++ further)) (sym rf) rw;
       }
 
-      at_new : IsRankedOf i x cap (f + 1) r → f < r.form → rank ≡ r
+      at_new : IsRankedOf i x cap further (f + 1) r → f < r.form → rank ≡ r
       at_new k lt =
           let e : r.form ≡ f + 1 = omega (arith, k.form_is.1) in
-          same_rank rank r (rw ∙ (ap (λ (g : ℕ). padded N (form_of x g)) (sym e) ∙ sym k.weighs)) (ri ∙ sym k.item_is) (rf ∙ sym e)
+          same_rank rank r (rw ∙ (ap (λ (g : ℕ). padded N (form_of x g ++ further)) (sym e) ∙ sym k.weighs)) (ri ∙ sym k.item_is) (rf ∙ sym e)
 
   -- one more form that does not fit
-  pub forms_skip : (i : ℕ) (x : Item) (cap : List ℕ) (f : ℕ) (old new : List (Ranked N)) → vector_fits (form_of x (f + 1)) cap ≡ false → AddsForms i x cap f old new → AddsForms i x cap (f + 1) old new
-  forms_skip i x cap f old new unfit h r = (
-    λ m. ⊎_elim (λ o. inl o) (λ k. inr (more_forms i x cap f r k)) ((h r).0 m),
+  pub forms_skip : (i : ℕ) (x : Item) (cap further : List ℕ) (f : ℕ) (old new : List (Ranked N)) → vector_fits (form_of x (f + 1)) cap ≡ false → AddsForms i x cap further f old new → AddsForms i x cap further (f + 1) old new
+  forms_skip i x cap further f old new unfit h r = (
+    λ m. ⊎_elim (λ o. inl o) (λ k. inr (more_forms i x cap further f r k)) ((h r).0 m),
     λ m. ⊎_elim
         (λ o. (h r).1 (inl o))
         (λ k. ⊎_elim
         (λ lt. absurd (clash k lt))
-        (λ le. (h r).1 (inr (fewer_forms i x cap f r le k)))
+        (λ le. (h r).1 (inr (fewer_forms i x cap further f r le k)))
         (cases_lt f r.form))
         m,
   )
     where
-      clash : IsRankedOf i x cap (f + 1) r → f < r.form → ⊥
+      clash : IsRankedOf i x cap further (f + 1) r → f < r.form → ⊥
       clash k lt =
           let e : r.form ≡ f + 1 = omega (arith, k.form_is.1) in
           false≢true (sym unfit ∙ subst (λ (g : ℕ). vector_fits (form_of x g) cap ≡ true) e k.fits)
@@ -96,7 +97,7 @@ module _ {N : ℕ} where
   more_items I t i r h = record { item_is = (h.item_is.0, omega (arith, h.item_is.1)); demanded = h.demanded; ranked = h.ranked }
 
   -- one more item with a demand
-  pub items_push : (I : InstanceValue) (t i : ℕ) (x : Item) (old new : List (Ranked N)) → item_at I (i + 1) ≡ x → 0 < x.demand → AreRanked I t i old → AddsForms (i + 1) x (type_at I t).cap (length x.forms) old new → AreRanked I t (i + 1) new
+  pub items_push : (I : InstanceValue) (t i : ℕ) (x : Item) (old new : List (Ranked N)) → item_at I (i + 1) ≡ x → 0 < x.demand → AreRanked I t i old → AddsForms (i + 1) x (type_at I t).cap (counted_by_caps I (i + 1)) (length x.forms) old new → AreRanked I t (i + 1) new
   items_push I t i x old new at demand h a r = (
     λ m. ⊎_elim (λ o. more_items I t i r ((h r).0 o)) (λ k. is_new k) ((a r).0 m),
     λ k. ⊎_elim
@@ -105,21 +106,21 @@ module _ {N : ℕ} where
         (cases_lt i r.item),
   )
     where
-      is_new : IsRankedOf (i + 1) x (type_at I t).cap (length x.forms) r → IsRanked I t (i + 1) r
+      is_new : IsRankedOf (i + 1) x (type_at I t).cap (counted_by_caps I (i + 1)) (length x.forms) r → IsRanked I t (i + 1) r
       is_new k =
           let there : item_at I r.item ≡ x = ap (item_at I) k.item_is ∙ at in
           record {
             item_is = (omega (arith, k.item_is), omega (arith, k.item_is));
             demanded = subst (λ (y : Item). 0 < y.demand) (sym there) demand;
-            ranked = subst (λ (y : Item). IsRankedOf r.item y (type_at I t).cap (length y.forms) r) (sym there) (record { item_is = refl; form_is = k.form_is; fits = k.fits; weighs = k.weighs });
+            ranked = subst (λ (y : Item). IsRankedOf r.item y (type_at I t).cap (counted_by_caps I r.item) (length y.forms) r) (sym there) (record { item_is = refl; form_is = k.form_is; fits = k.fits; weighs = k.weighs ∙ ap (λ (j : ℕ). padded N (form_of x r.form ++ counted_by_caps I j)) (sym k.item_is) });
           }
 
-      of_new : IsRanked I t (i + 1) r → i < r.item → IsRankedOf (i + 1) x (type_at I t).cap (length x.forms) r
+      of_new : IsRanked I t (i + 1) r → i < r.item → IsRankedOf (i + 1) x (type_at I t).cap (counted_by_caps I (i + 1)) (length x.forms) r
       of_new k lt =
           let e : r.item ≡ i + 1 = omega (arith, k.item_is.1) in
           let there : item_at I r.item ≡ x = ap (item_at I) e ∙ at in
-          let ranked = subst (λ (y : Item). IsRankedOf r.item y (type_at I t).cap (length y.forms) r) there k.ranked in
-          record { item_is = e; form_is = ranked.form_is; fits = ranked.fits; weighs = ranked.weighs }
+          let ranked = subst (λ (y : Item). IsRankedOf r.item y (type_at I t).cap (counted_by_caps I r.item) (length y.forms) r) there k.ranked in
+          record { item_is = e; form_is = ranked.form_is; fits = ranked.fits; weighs = ranked.weighs ∙ ap (λ (j : ℕ). padded N (form_of x r.form ++ counted_by_caps I j)) e }
 
   -- one more item without a demand
   pub items_skip : (I : InstanceValue) (t i : ℕ) (x : Item) (old : List (Ranked N)) → item_at I (i + 1) ≡ x → x.demand ≡ 0 → AreRanked I t i old → AreRanked I t (i + 1) old

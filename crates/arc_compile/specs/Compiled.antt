@@ -6,7 +6,8 @@ use Rattle.label_graph.specs.declared.parts.Piece.{Piece}
 use Rattle.label_graph.specs.Graph.{GraphValue}
 use Rattle.flow_graph.specs.declared.parts.TypeArc.{TypeArc}
 use Rattle.flow_graph.specs.Arcs.{TypeValue, ArcBefore, flow_type}
-use Rattle.arc_compile.specs.declared.compiled.TypeSize.{TypeSize}
+use Rattle.arc_compile.specs.declared.results.TypeSize.{TypeSize}
+use Rattle.arc_compile.specs.Extended.{places_of}
 use Rattle.arc_compile.specs.Exact.{marked_item, marked_form}
 use Rattle.arc_compile.specs.Graphs.{AreTypeGraphs}
 
@@ -46,8 +47,8 @@ pub record IsCompiledType (N : ℕ) (I : InstanceValue) (t : ℕ) (x : TypeValue
 abbrev pub size_at : List TypeSize → ℕ → TypeSize
 size_at sizes t = slice_index_or sizes (t - 1) (record { main_nodes = 0; main_arcs = 0; final_nodes = 0; final_arcs = 0 })
 
--- all types compiled in the instance's own dimensions
+-- all types compiled in as many places as extended weights have
 pub record AreCompiled (I : InstanceValue) (g : List TypeValue) (sizes : List TypeSize) : Type 0 where
   pub types : length g ≡ length I.types
   pub count : length sizes ≡ length I.types
-  pub each : (t : ℕ) → IsAmong t (length I.types) → IsCompiledType I.dims I t (flow_type g t) (size_at sizes t)
+  pub each : (t : ℕ) → IsAmong t (length I.types) → IsCompiledType (places_of I) I t (flow_type g t) (size_at sizes t)

@@ -1,20 +1,21 @@
 -- The level, the main and the final graph of a type of bins.
 use Rattle.std.specs.Prelude.{◌≡◌, ℕ, zero, suc, ◌+◌, ◌-◌, ◌≤◌, ◌<◌, List, length}
 use Rattle.arc_num.specs.declared.TheConstants.{MAX_ARCS}
-use Rattle.packing_laws.specs.Instances.{InstanceValue, IsAmong, type_at}
+use Rattle.packing_laws.specs.Instances.{InstanceValue, IsAmong}
 use Rattle.label_graph.specs.declared.parts.Piece.{Piece}
 use Rattle.label_graph.specs.Graph.{GraphValue}
 use Rattle.level_graph.specs.Levels.{IsLevelGraph}
 use Rattle.main_compress.specs.MainGraphs.{IsMainGraph}
 use Rattle.final_compress.specs.FinalGraphs.{IsFinalGraph}
+use Rattle.arc_compile.specs.Extended.{places_of, extended_capacity}
 use Rattle.arc_compile.specs.Pieces.{ArePieces, padded}
 
 -- in N places, the level graph of the pieces of type t, and its main graph
 pub record AreMainGraphs {N : ℕ} (I : InstanceValue) (t : ℕ) (level main : GraphValue N) : Type 0 where
   pub pieces : List (Piece N)
   pub are_pieces : ArePieces I t pieces
-  pub level_is : IsLevelGraph pieces (padded N (type_at I t).cap) level
-  pub main_is : IsMainGraph (padded N (type_at I t).cap) level main
+  pub level_is : IsLevelGraph pieces (padded N (extended_capacity I t)) level
+  pub main_is : IsMainGraph (padded N (extended_capacity I t)) level main
 
 -- and the final graph of the main graph
 pub record AreTypeGraphs {N : ℕ} (I : InstanceValue) (t : ℕ) (level main final : GraphValue N) : Type 0 where
@@ -28,10 +29,10 @@ pub record HasMainArcs (N : ℕ) (I : InstanceValue) (t arcs : ℕ) : Type 0 whe
   pub mains : AreMainGraphs I t level main
   pub arcs_are : arcs ≡ length main.arcs
 
--- the main graphs of types 1 to t have so many arcs together
+-- the main graphs of types 1 to t, in as many places as extended weights have, have so many arcs together
 abbrev pub HaveMainArcs : InstanceValue → ℕ → ℕ → Type 0
 HaveMainArcs I zero arcs = arcs ≡ 0
-HaveMainArcs I (suc t) arcs = (before : ℕ) × (more : ℕ) × HaveMainArcs I t before × HasMainArcs I.dims I (suc t) more × (arcs ≡ before + more)
+HaveMainArcs I (suc t) arcs = (before : ℕ) × (more : ℕ) × HaveMainArcs I t before × HasMainArcs (places_of I) I (suc t) more × (arcs ≡ before + more)
 
 -- the main graphs of all types together have not too many arcs
 abbrev pub IsSmall : InstanceValue → Type 0

@@ -7,21 +7,23 @@ use Rattle.std.specs.declared.cmp.Ordering.{Ordering}
 use Rattle.packing_laws.specs.Instances.{InstanceValue, IsAmong, type_at, item_at, form_at}
 use Rattle.packing_laws.specs.Floors.{vector_fits}
 use Rattle.label_graph.specs.declared.parts.Piece.{Piece}
+use Rattle.arc_compile.specs.Extended.{extended_weight}
 
 -- a vector with zeros behind it, up to n numbers
 abbrev pub padded : ℕ → List ℕ → List ℕ
 padded n v = v ++ replicate (n - length v) 0
 
--- the piece is a form that fits type t, of an item with a demand: it weighs as the form, and has a copy for each unit
+-- the piece is a form that fits type t, of an item with a demand: its weight is the extended weight
+-- of the form, and it has a copy for each unit
 pub record IsPiece {N : ℕ} (I : InstanceValue) (t : ℕ) (q : Piece N) : Type 0 where
   pub item_is : IsAmong q.item (length I.items)
   pub form_is : IsAmong q.form (length (item_at I q.item).forms)
   pub demanded : 0 < (item_at I q.item).demand
   pub fits : vector_fits (form_at I q.item q.form) (type_at I t).cap ≡ true
-  pub weighs : q.weight ≡ padded N (form_at I q.item q.form)
+  pub weighs : q.weight ≡ padded N (extended_weight I q.item q.form)
   pub copied : q.copies ≡ (item_at I q.item).demand
 
--- the order of pieces: the heavier first, by their weights from the first dimension on; then by item, then by form
+-- the order of pieces: the heavier first, by their extended weights from the first number on; then by item, then by form
 abbrev pub piece_cmp : {N : ℕ} → Piece N → Piece N → Ordering
 piece_cmp p q = ordering_then (slice_cmp nat_cmp q.weight p.weight) (ordering_then (nat_cmp p.item q.item) (nat_cmp p.form q.form))
 

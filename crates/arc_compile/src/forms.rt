@@ -2,43 +2,36 @@
 
 ghost use Rattle.std.specs.Prelude.{◌≡◌, ◌+◌, ◌≤◌, ℕ, All, OnOk, IfOk, length, vec_len};
 ghost use Rattle.std.specs.List.Sorted.{IsStrictlySortedBy};
-ghost use Rattle.packing_laws.specs.Floors.{vector_fits};
 ghost use Rattle.packing_laws.specs.Instances.{type_at};
-ghost use Rattle.arc_compile.specs.Ranks.{AddsForms, AreRanked, rank_cmp, forms_of};
+ghost use Rattle.arc_compile.specs.Extended.{places_of, counted_by_caps};
+ghost use Rattle.arc_compile.specs.inner.Ranks.{AddsForms, AreRanked, rank_cmp, forms_of};
 
+use crate::extended::{extended, unit_by_caps};
 use crate::ranks::Ranked;
 use arc_num::{MAX_FORMS, Memory};
 use label_graph::sort_distinct;
-use packing_laws::{Instance, Item};
+use packing_laws::{Instance, Item, vector_fits};
 use std::alloc::Global;
 use std::cmp::Reverse;
-use weight_vec::Weights;
 
-/// Whether no number of the vector passes that of the capacity.
-fn fits(vector: &[u32], cap: &[u32]) -> bool
-    ensures { result ≡ vector_fits vector.now cap.now }
-{
-    vector.iter().zip(cap).all(|(number, room)| number <= room)
-}
-
-/// Adds the forms of item i that fit, with zeros up to N places.
+/// Adds the forms of item i that fit, with further numbers behind their weights, and zeros up to N places.
 fn push_forms<const N: usize>(
+    alloc: Global,
     ranked: &mut Vec<Ranked<N>>,
     i: u32,
     item: &Item,
     cap: &[u32],
+    further: &[u32],
 ) -> Result<(), Memory>
     requires small { N ≤ 32 }
-    requires sizes { All (λ v. length v ≤ N) item.now.forms }
+    requires sizes { All (λ v. length v + length further.now ≤ N) item.now.forms }
     requires few { length item.now.forms ≤ MAX_FORMS }
-    ensures added { OnOk result (AddsForms i item.now cap.now (length item.now.forms) ranked.old.items ranked.new.items) }
+    ensures added { OnOk result (AddsForms i item.now cap.now further.now (length item.now.forms) ranked.old.items ranked.new.items) }
     ensures count { OnOk result (vec_len ranked.new ≤ vec_len ranked.old + length item.now.forms) }
 {
     for (f, form) in item.forms.as_slice().iter().enumerate() {
-        if fits(form.as_slice(), cap) {
-            let Some(weight) = Weights::pad_from(form.as_slice()) else {
-                unreachable!()
-            };
+        if vector_fits(form.as_slice(), cap) {
+            let weight = extended(alloc, form.as_slice(), further)?;
             ranked.push(Ranked {
                 weight: Reverse(weight),
                 item: i,
@@ -56,14 +49,16 @@ fn gathered<const N: usize>(
     cap: &[u32],
 ) -> Result<Vec<Ranked<N>>, Memory>
     requires small { N ≤ 32 }
-    requires wide { instance.now.dims ≤ N }
+    requires wide { places_of instance.now ≤ N }
     ensures ranked { (t : ℕ) → (type_at instance.now t).cap ≡ cap.now → IfOk result (λ ranked. AreRanked instance.now t (length instance.now.items) ranked.items) }
     ensures count { IfOk result (λ ranked. vec_len ranked ≤ forms_of instance.now.items) }
 {
     let mut ranked = Vec::new(alloc);
     for (i, item) in instance.items().iter().enumerate() {
         if item.demand > 0 {
-            push_forms(&mut ranked, i as u32 + 1, item, cap)?;
+            let number = i as u32 + 1;
+            let counted = unit_by_caps(alloc, instance, number)?;
+            push_forms(alloc, &mut ranked, number, item, cap, counted.as_slice())?;
         }
     }
     Ok(ranked)
@@ -76,7 +71,7 @@ pub fn ranked_forms<const N: usize>(
     cap: &[u32],
 ) -> Result<Vec<Ranked<N>>, Memory>
     requires small { N ≤ 32 }
-    requires wide { instance.now.dims ≤ N }
+    requires wide { places_of instance.now ≤ N }
     ensures ranked { (t : ℕ) → (type_at instance.now t).cap ≡ cap.now → IfOk result (λ ranked. AreRanked instance.now t (length instance.now.items) ranked.items) }
     ensures sorted { IfOk result (λ ranked. IsStrictlySortedBy rank_cmp ranked.items) }
     ensures count { IfOk result (λ ranked. vec_len ranked ≤ forms_of instance.now.items) }

@@ -1,18 +1,24 @@
 //! What holds of all compiled instances. Each function is empty but for other laws: a call brings its law in as a fact.
 
-ghost use Rattle.arc_compile.specs.CompileLaws.{FinalGraphsAreExact, CompiledGraphsAreFaithful, PaddingKeepsGraphs, SizesAreOne};
+ghost use Rattle.arc_compile.specs.CompileLaws.{ExtendedWeightsTellFits, FinalGraphsAreExact, CompiledGraphsAreFaithful, CompiledGraphsAreOne, PaddingKeepsGraphs, SizesExist, SizesAreOne};
 
 use final_compress::{
-    cuts_keep_final_graphs, final_graphs_are_graphs, final_graphs_keep_contents,
-    final_paths_weigh_no_more,
+    cuts_keep_final_graphs, final_graphs_are_graphs, final_graphs_are_one,
+    final_graphs_keep_contents, final_paths_weigh_no_more,
 };
 use level_graph::{
-    choices_have_one_path, cuts_keep_level_graphs, level_graphs_are_graphs, levels_are_one,
+    choices_have_one_path, cuts_keep_level_graphs, level_graphs_are_graphs, level_graphs_exist,
+    levels_are_one,
 };
 use main_compress::{
-    cuts_keep_main_graphs, main_graphs_are_graphs, main_graphs_are_one, main_graphs_keep_contents,
-    main_paths_fit,
+    cuts_keep_main_graphs, main_graphs_are_graphs, main_graphs_are_one, main_graphs_exist,
+    main_graphs_keep_contents, main_paths_fit,
 };
+
+/// A content fits, caps included, exactly where its extended weight is within the extended capacity.
+pub fn extended_weights_tell_fits()
+    ensures { ExtendedWeightsTellFits }
+{}
 
 /// The paths of a type's final graph are the contents that fit the type.
 pub fn final_graphs_are_exact()
@@ -38,6 +44,15 @@ pub fn compiled_graphs_are_faithful()
     final_graphs_are_exact();
 }
 
+/// There is but one graph, and one list of sizes, to which an instance is compiled.
+pub fn compiled_graphs_are_one()
+    ensures { CompiledGraphsAreOne }
+{
+    levels_are_one();
+    main_graphs_are_one();
+    final_graphs_are_one();
+}
+
 /// Zeros behind all weights and capacities change nothing of the graphs of a type.
 pub fn padding_keeps_graphs()
     ensures { PaddingKeepsGraphs }
@@ -47,6 +62,15 @@ pub fn padding_keeps_graphs()
     main_graphs_are_graphs();
     cuts_keep_main_graphs();
     cuts_keep_final_graphs();
+}
+
+/// Each instance is small, or too large from some first type on.
+pub fn sizes_exist()
+    ensures { SizesExist }
+{
+    level_graphs_are_graphs();
+    level_graphs_exist();
+    main_graphs_exist();
 }
 
 /// No instance is both small and too large, and but one type is the first with which it is too large.

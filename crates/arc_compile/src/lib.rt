@@ -1,23 +1,25 @@
 //! From an instance to the graphs of its types of bins.
 #![tactic(auto)]
 
-mod all_types;
-mod compiled;
+mod compiling;
+mod extended;
 mod forms;
 mod laws;
+mod level_sizes;
 mod numbered;
 mod pieces;
 mod ranks;
-mod sizes;
-mod types;
+mod results;
+mod type_graphs;
 
-pub use all_types::compile;
-pub use compiled::{CompileFault, Compiled, Sizes, TypeSize};
+pub use compiling::compile;
 pub use laws::{
-    compiled_graphs_are_faithful, final_graphs_are_exact, padding_keeps_graphs, sizes_are_one,
+    compiled_graphs_are_faithful, compiled_graphs_are_one, extended_weights_tell_fits,
+    final_graphs_are_exact, padding_keeps_graphs, sizes_are_one, sizes_exist,
 };
+pub use level_sizes::level_size;
 pub use pieces::pieces_of;
-pub use sizes::level_size;
+pub use results::{CompileFault, Compiled, Sizes, TypeSize};
 
 #[cfg(test)]
 mod tests;

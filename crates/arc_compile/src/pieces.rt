@@ -2,8 +2,9 @@
 
 ghost use Rattle.std.specs.Prelude.{◌≡◌, ◌≤◌, All, IfOk, length};
 ghost use Rattle.packing_laws.specs.Instances.{IsAmong, item_at};
+ghost use Rattle.arc_compile.specs.Extended.{places_of};
 ghost use Rattle.arc_compile.specs.Pieces.{ArePieces};
-ghost use Rattle.arc_compile.specs.Ranks.{pieces_from};
+ghost use Rattle.arc_compile.specs.inner.Ranks.{pieces_from};
 
 use crate::forms::ranked_forms;
 use crate::ranks::Ranked;
@@ -44,8 +45,8 @@ fn with_copies<const N: usize>(
     Ok(pieces)
 }
 
-/// The pieces of type t: the forms that fit it, of items with a demand, the heaviest first. Weights have zeros behind
-/// them up to N places.
+/// The pieces of type t: the forms that fit it, of items with a demand, the heaviest first. Each weight has a number
+/// for each cap behind it, 1 for that of the piece's item and 0 for the others, and then zeros up to N places.
 pub fn pieces_of<const N: usize>(
     alloc: Global,
     instance: &Instance,
@@ -53,7 +54,7 @@ pub fn pieces_of<const N: usize>(
 ) -> Result<Vec<Piece<N>>, Memory>
     requires small { N ≤ 32 }
     requires in_range { IsAmong t (length instance.now.types) }
-    requires wide { instance.now.dims ≤ N }
+    requires wide { places_of instance.now ≤ N }
     ensures pieces { IfOk result (λ pieces. ArePieces instance.now t pieces.items) }
     ensures count { IfOk result (λ pieces. length pieces.items ≤ MAX_ALL_FORMS) }
 {

@@ -1,16 +1,22 @@
 //! The pieces, the graphs and the sizes of worked instances.
 use super::*;
-use crate::types::main_graph;
+use crate::type_graphs::main_graph;
 use arc_num::Memory;
 use final_compress::compress_final;
 use flow_graph::ArcKind;
 use label_graph::{Graph, GraphFault};
-use packing_laws::{BinType, Instance, Item, Numbers, Vectors};
+use packing_laws::{BinType, Instance, Item, ItemCap, Numbers, Vectors};
 use std::alloc::Global;
 use std::test::Fail;
+use std::thread::Threads;
 
-/// One type of bins without limit, and items of one form each: its weights, and the demand.
-fn plain(alloc: Global, cap: &[u32], items: &[(&[u32], u32)]) -> Result<Option<Instance>, Memory> {
+/// One type of bins without limit, items of one form each, its weights and the demand, and caps of items.
+fn capped(
+    alloc: Global,
+    cap: &[u32],
+    items: &[(&[u32], u32)],
+    caps: &[(u32, u32)],
+) -> Result<Option<Instance>, Memory> {
     let mut listed = Vec::new(alloc);
     for (weights, demand) in items {
         let form = Numbers::new(Vec::from_slice(alloc, weights)?);
@@ -19,14 +25,26 @@ fn plain(alloc: Global, cap: &[u32], items: &[(&[u32], u32)]) -> Result<Option<I
             forms: Vectors::new(vec![in alloc; form]?),
         })?;
     }
-    let cap = Numbers::new(Vec::from_slice(alloc, cap)?);
-    let dims = if cap.as_slice().len() == 1 { 1 } else { 2 };
+    let mut item_caps = Vec::new(alloc);
+    for (item, count) in caps {
+        item_caps.push(ItemCap {
+            item: *item,
+            count: *count,
+        })?;
+    }
     let bin_type = BinType {
-        cap,
+        cap: Numbers::new(Vec::from_slice(alloc, cap)?),
         cost: 1,
         limit: None,
     };
-    Ok(Instance::new(dims, vec![in alloc; bin_type]?, listed))
+    let types = vec![in alloc; bin_type]?;
+    let dims = u32::try_from(cap.len()).unwrap_or(0);
+    Ok(Instance::with_caps(dims, types, listed, item_caps))
+}
+
+/// The same without caps.
+fn plain(alloc: Global, cap: &[u32], items: &[(&[u32], u32)]) -> Result<Option<Instance>, Memory> {
+    capped(alloc, cap, items, &[])
 }
 
 /// A dear type without limit beside a cheap one of which there is one bin, and two units of an item.
@@ -57,7 +75,7 @@ fn two_forms_on_a_bar(rt: HostRuntime) -> Result<(), Fail> {
     let alloc = rt.alloc();
     let items: [(&[u32], u32); 2] = [(&[5], 1), (&[6], 1)];
     let instance = plain(alloc, &[10], &items)?.ok_or("no instance")?;
-    assert!(rt; instance.dims() <= 1);
+    assert!(rt; instance.dims() + instance.cap_count() <= 1);
     let _types = instance.type_count();
     let pieces = pieces_of::<1>(alloc, &instance, 1)?;
     assert_eq!(rt; pieces.len(), 2);
@@ -73,14 +91,81 @@ fn two_forms_on_a_bar(rt: HostRuntime) -> Result<(), Fail> {
     Ok(())
 }
 
+/// The numbers of nodes and arcs of the level, the main and the final graph of the first type, and of all arcs.
+type Counts = ((u128, u128), (u32, u32), (u32, u32), u64);
+
+fn counts_of<R: Threads + Sync>(
+    rt: &R,
+    alloc: Global,
+    instance: &Instance,
+) -> Result<Counts, Fail> {
+    let level = size_of(alloc, instance)?;
+    let compiled = compile(rt, alloc, instance, 1)?;
+    let size = compiled.sizes.as_slice().first().ok_or("no size")?;
+    Ok((
+        level,
+        (size.main_nodes, size.main_arcs),
+        (size.final_nodes, size.final_arcs),
+        u64::from(compiled.graph.arc_count()),
+    ))
+}
+
 #[test]
 fn two_dimensions_and_none(rt: HostRuntime) -> Result<(), Fail> {
     let alloc = rt.alloc();
     let items: [(&[u32], u32); 2] = [(&[3, 2], 2), (&[2, 3], 2)];
     let instance = plain(alloc, &[5, 5], &items)?.ok_or("no instance")?;
-    assert_eq!(rt; size_of(alloc, &instance)?, (7, 9));
+    assert_eq!(rt;
+        counts_of(&rt, alloc, &instance)?,
+        ((7, 9), (3, 4), (3, 4), 5)
+    );
     let empty = plain(alloc, &[10], &[])?.ok_or("no instance")?;
     assert_eq!(rt; size_of(alloc, &empty)?, (1, 0));
+    Ok(())
+}
+
+#[test]
+fn caps_are_further_places(rt: HostRuntime) -> Result<(), Fail> {
+    let alloc = rt.alloc();
+    let one: [(&[u32], u32); 1] = [(&[2], 4)];
+    let instance = capped(alloc, &[10], &one, &[(1, 2)])?.ok_or("no instance")?;
+    assert_eq!(rt;
+        counts_of(&rt, alloc, &instance)?,
+        ((4, 5), (3, 4), (3, 4), 5)
+    );
+    let two: [(&[u32], u32); 2] = [(&[3, 2, 1], 2), (&[2, 3, 1], 2)];
+    let instance = plain(alloc, &[5, 5, 5], &two)?.ok_or("no instance")?;
+    assert_eq!(rt;
+        counts_of(&rt, alloc, &instance)?,
+        ((7, 9), (3, 4), (3, 4), 5)
+    );
+    let three: [(&[u32], u32); 3] = [(&[3, 2, 1], 2), (&[2, 3, 2], 1), (&[1, 1, 4], 2)];
+    let instance = capped(alloc, &[7, 6, 5], &three, &[(1, 1), (3, 2)])?.ok_or("no instance")?;
+    assert_eq!(rt;
+        counts_of(&rt, alloc, &instance)?,
+        ((13, 17), (4, 6), (3, 5), 6)
+    );
+    Ok(())
+}
+
+#[test]
+fn up_to_32_places(rt: HostRuntime) -> Result<(), Fail> {
+    let alloc = rt.alloc();
+    let nine: [(&[u32], u32); 2] = [
+        (&[1, 0, 1, 0, 1, 0, 1, 0, 1], 2),
+        (&[0, 2, 0, 2, 0, 2, 0, 2, 0], 1),
+    ];
+    let instance = capped(alloc, &[3; 9], &nine, &[(1, 1)])?.ok_or("no instance")?;
+    assert_eq!(rt;
+        counts_of(&rt, alloc, &instance)?,
+        ((7, 9), (3, 4), (3, 4), 5)
+    );
+    let many: [(&[u32], u32); 1] = [(&[1; 31], 2)];
+    let instance = capped(alloc, &[2; 31], &many, &[(1, 1)])?.ok_or("no instance")?;
+    assert_eq!(rt;
+        counts_of(&rt, alloc, &instance)?,
+        ((3, 3), (2, 2), (2, 2), 3)
+    );
     Ok(())
 }
 
@@ -142,7 +227,7 @@ fn labels_of_two_forms(rt: HostRuntime) -> Result<(), Fail> {
     let alloc = rt.alloc();
     let items: [(&[u32], u32); 2] = [(&[6], 1), (&[5], 1)];
     let instance = plain(alloc, &[10], &items)?.ok_or("no instance")?;
-    assert!(rt; instance.dims() <= 1);
+    assert!(rt; instance.dims() + instance.cap_count() <= 1);
     let _types = instance.type_count();
     let main = main_graph::<1>(alloc, &instance, 1, 4)?;
     assert_eq!(rt; numbers(alloc, &main)?.as_slice(), &[4, 5, 10][..]);
@@ -173,6 +258,9 @@ fn two_types_have_two_graphs(rt: HostRuntime) -> Result<(), Fail> {
 fn laws_hold() {
     final_graphs_are_exact();
     compiled_graphs_are_faithful();
+    compiled_graphs_are_one();
+    extended_weights_tell_fits();
     padding_keeps_graphs();
     sizes_are_one();
+    sizes_exist();
 }

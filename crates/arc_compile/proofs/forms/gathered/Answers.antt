@@ -2,10 +2,11 @@ use Rattle.std.proofs.Common.{◌≡◌, ◌+◌, ◌<◌, List, ℕ, length, ar
 use Rattle.std.proofs.Math.Seq.{take-length}
 use Rattle.packing_laws.specs.declared.instances.Item.{Item}
 use Rattle.packing_laws.specs.Instances.{item_at, type_at}
-use Rattle.arc_compile.specs.Ranks.{AreRanked, AddsForms, forms_of}
+use Rattle.arc_compile.specs.Extended.{counted_by_caps}
+use Rattle.arc_compile.specs.inner.Ranks.{AreRanked, AddsForms, forms_of}
 use Rattle.arc_compile.proofs.RankLemmas.{item_by_place, items_push, items_skip, forms_more}
 use Rattle.arc_compile.proofs.forms.gathered.Goals as goal
-use Rattle.arc_compile.proofs.forms.gathered.Goals.{then-item-gt0+in_ok-push_forms, else-item-gt0}
+use Rattle.arc_compile.proofs.forms.gathered.Goals.{then-item-gt0+in_ok-counted+in_ok-push_forms, else-item-gt0}
 
 pub loop-i-preserved : goal.loop-i-preserved
 loop-i-preserved g c =
@@ -17,9 +18,11 @@ loop-i-preserved g c =
     let at : item_at I (i + 1) ≡ x = item_by_place I i x lt (subst (λ (xs : List Item). x ≡ get_or xs i x) same c.item-item.is) in
     let sum : forms_of (take (i + 1) I.items) ≡ forms_of (take i I.items) + length x.forms = forms_more I.items i x lt (subst (λ (xs : List Item). x ≡ get_or xs i x) same c.item-item.is) in
     elim c.if-item-gt0.branch [
-      | then-item-gt0+in_ok-push_forms w ↦ (
+      | then-item-gt0+in_ok-counted+in_ok-push_forms w ↦ (
         λ t cap_is.
-            let adds : AddsForms (i + 1) x (type_at I t).cap (length x.forms) c.loop-i.ranked.items w.push_forms.new.ranked.items = subst (λ (u : List ℕ). AddsForms (i + 1) x u (length x.forms) c.loop-i.ranked.items w.push_forms.new.ranked.items) (sym cap_is) w.in_ok-push_forms.ensures.added in
+            let counted : w.as_slice.result.now ≡ counted_by_caps I (i + 1) = w.as_slice.ensures.value ∙ w.in_ok-counted.ensures in
+            let by_cap : AddsForms (i + 1) x (type_at I t).cap w.as_slice.result.now (length x.forms) c.loop-i.ranked.items w.push_forms.new.ranked.items = subst (λ (u : List ℕ). AddsForms (i + 1) x u w.as_slice.result.now (length x.forms) c.loop-i.ranked.items w.push_forms.new.ranked.items) (sym cap_is) w.in_ok-push_forms.ensures.added in
+            let adds : AddsForms (i + 1) x (type_at I t).cap (counted_by_caps I (i + 1)) (length x.forms) c.loop-i.ranked.items w.push_forms.new.ranked.items = subst (λ (u : List ℕ). AddsForms (i + 1) x (type_at I t).cap u (length x.forms) c.loop-i.ranked.items w.push_forms.new.ranked.items) counted by_cap in
             rw w.ranked-is (items_push I t i x c.loop-i.ranked.items w.push_forms.new.ranked.items at w.if-item-gt0.true (c.loop-i.invariant.0 t cap_is) adds),
         omega (arith, c.loop-i.invariant.1, sum, ap vec_len w.ranked-is, w.in_ok-push_forms.ensures.count),
       )

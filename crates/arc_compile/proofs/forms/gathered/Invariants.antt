@@ -1,6 +1,6 @@
 use Rattle.std.proofs.Common.{ℕ, ◌≡◌, ◌≤◌, take, vec_len}
 use Rattle.packing_laws.specs.Instances.{type_at}
-use Rattle.arc_compile.specs.Ranks.{AreRanked, forms_of}
+use Rattle.arc_compile.specs.inner.Ranks.{AreRanked, forms_of}
 use Rattle.arc_compile.proofs.forms.gathered.Given as goal
 
 abbrev pub invariant-loop-i : goal.invariant-loop-i

@@ -9,7 +9,7 @@ use Rattle.packing_laws.specs.Instances.{IsAmong, type_at}
 use Rattle.label_graph.specs.declared.parts.Piece.{Piece}
 use Rattle.arc_compile.specs.declared.ranks.Ranked.{Ranked}
 use Rattle.arc_compile.specs.Pieces.{ArePieces}
-use Rattle.arc_compile.specs.Ranks.{AreRanked, pieces_from, piece_from, forms_of}
+use Rattle.arc_compile.specs.inner.Ranks.{AreRanked, pieces_from, piece_from, forms_of}
 use Rattle.arc_compile.proofs.RankLemmas.{are_pieces}
 use Rattle.arc_compile.proofs.pieces.pieces_of.Goals as goal
 

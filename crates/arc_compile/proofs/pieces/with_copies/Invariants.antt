@@ -1,5 +1,5 @@
 use Rattle.std.proofs.Common.{◌≡◌, take}
-use Rattle.arc_compile.specs.Ranks.{pieces_from}
+use Rattle.arc_compile.specs.inner.Ranks.{pieces_from}
 use Rattle.arc_compile.proofs.pieces.with_copies.Given as goal
 
 abbrev pub invariant-loop-rank : goal.invariant-loop-rank
