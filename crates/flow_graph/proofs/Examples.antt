@@ -52,6 +52,7 @@ empty_fits = record {
   bin_type = (omega arith, omega arith);
   exists = λ k d within. absurd (omega (arith, within));
   weight = λ d among. omega arith;
+  caps = λ k d within. absurd (omega (arith, within));
 }
 
 path_fits : (path : List TypeArc) → IsTypePath (nothing_fits ∷ []) 1 path → Fits nothing_to_pack 1 (content_of path)

@@ -3,3 +3,12 @@ pub mod Numbers
 pub mod Places
 pub mod Examples
 pub mod Trees
+pub mod SignedProducts
+pub mod SignedSums
+pub mod ArcKinds
+pub mod FewNodes
+pub mod Points
+pub mod Chords
+pub mod Joins
+pub mod Potentials
+pub mod Extensions

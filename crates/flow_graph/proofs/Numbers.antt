@@ -4,8 +4,10 @@ use Rattle.std.specs.Prelude.{sum_by}
 use Rattle.std.proofs.lemmas.List.{length-map}
 use Rattle.std.proofs.lemmas.List.Sums.{sum_by-cons, sum_by-append, sum_by-take-le, sum_by_more_le}
 use Rattle.std.proofs.lemmas.List.Elements.{All-push}
+use Rattle.arc_num.specs.declared.TheConstants.{MAX_ARCS, MAX_NUMBERED, MAX_TYPES}
 use Rattle.flow_graph.specs.declared.parts.ArcKind.{ArcKind}
-use Rattle.flow_graph.specs.Arcs.{TypeValue, IsFlowType, IsFlowGraph, IsStored, kind_of, row_of, numbered_from, numbered, last_arc}
+use Rattle.flow_graph.specs.Arcs.{TypeValue, IsFlowType, IsFlowGraph, kind_of, row_of, numbered_from, numbered, last_arc}
+use Rattle.flow_graph.specs.inner.Stored.{IsStored}
 use Rattle.packing_laws.specs.Instances.{IsAmong}
 
 pub numbered_from-append : (t : ℕ) (xs ys : List TypeValue) → numbered_from t (xs ++ ys) ≡ numbered_from t xs ++ numbered_from (t + length xs) ys
@@ -33,25 +35,25 @@ sum_by-bins (x ∷ xs) =
     rw (sum_by-cons (λ (y : TypeValue). length y.arcs + 1) x xs, sum_by-cons (λ (y : TypeValue). length y.arcs) x xs) (omega (arith, rest))
 
 -- there are not too many arcs
-pub few_arcs : (g : List TypeValue) → IsFlowGraph g → sum_by (λ x. length x.arcs + 1) g ≤ 1000064
+pub few_arcs : (g : List TypeValue) → IsFlowGraph g → sum_by (λ x. length x.arcs + 1) g ≤ MAX_NUMBERED
 few_arcs g is = let bins = sum_by-bins g in let few = is.few in let room = is.room in omega (arith, bins, few, room)
 
-pub few_numbered : (g : List TypeValue) → IsFlowGraph g → length (numbered g) ≤ 1000064
+pub few_numbered : (g : List TypeValue) → IsFlowGraph g → length (numbered g) ≤ MAX_NUMBERED
 few_numbered g is = let few = few_arcs g is in let long = length-numbered_from 1 g in omega (arith, few, long)
 
 -- nor in the first types
-pub few_before : (g : List TypeValue) → IsFlowGraph g → (n : ℕ) → sum_by (λ x. length x.arcs + 1) (take n g) ≤ 1000064
+pub few_before : (g : List TypeValue) → IsFlowGraph g → (n : ℕ) → sum_by (λ x. length x.arcs + 1) (take n g) ≤ MAX_NUMBERED
 few_before g is n = let few = few_arcs g is in let front = sum_by-take-le (λ (x : TypeValue). length x.arcs + 1) g n in omega (arith, few, front)
 
 -- nor is the number of the last arc of a type too great
-pub few_to_last : (g : List TypeValue) → IsFlowGraph g → (t : ℕ) → IsAmong t (length g) → last_arc g t ≤ 1000064
+pub few_to_last : (g : List TypeValue) → IsFlowGraph g → (t : ℕ) → IsAmong t (length g) → last_arc g t ≤ MAX_NUMBERED
 few_to_last g is t among =
     let few = few_arcs g is in
     let part = sum_by_more_le (λ (x : TypeValue). length x.arcs + 1) g (t - 1) (record { nodes = 1; arcs = [] }) (omega (arith, among.0, among.1)) in
     omega (arith, few, part)
 
 -- a further type keeps what a graph keeps
-pub IsStored-push : (g : List TypeValue) (kinds : List ArcKind) (x : TypeValue) → IsStored g kinds → IsFlowType x → length g < 64 → sum_by (λ x. length x.arcs) g + length x.arcs ≤ 1000000 → IsStored (g ++ x ∷ []) (kinds ++ row_of (length g + 1) x.arcs)
+pub IsStored-push : (g : List TypeValue) (kinds : List ArcKind) (x : TypeValue) → IsStored g kinds → IsFlowType x → length g < MAX_TYPES → sum_by (λ x. length x.arcs) g + length x.arcs ≤ MAX_ARCS → IsStored (g ++ x ∷ []) (kinds ++ row_of (length g + 1) x.arcs)
 IsStored-push g kinds x stored is few room =
     let sum = sum_by-append (λ (y : TypeValue). length y.arcs) g (x ∷ []) in
     let one = sum_by-cons (λ (y : TypeValue). length y.arcs) x [] in
@@ -64,7 +66,7 @@ IsStored-push g kinds x stored is few room =
     }
 
 -- the same where the new types and the new row are given by equations
-pub stored_push : (g types : List TypeValue) (kinds added row : List ArcKind) (x y : TypeValue) (t : ℕ) → IsStored g kinds → IsFlowType x → length g < 64 → sum_by (λ x. length x.arcs) g + length x.arcs ≤ 1000000 → y ≡ x → t ≡ length g + 1 → added ≡ row_of t x.arcs → types ≡ g ++ y ∷ [] → row ≡ kinds ++ added → IsStored types row
+pub stored_push : (g types : List TypeValue) (kinds added row : List ArcKind) (x y : TypeValue) (t : ℕ) → IsStored g kinds → IsFlowType x → length g < MAX_TYPES → sum_by (λ x. length x.arcs) g + length x.arcs ≤ MAX_ARCS → y ≡ x → t ≡ length g + 1 → added ≡ row_of t x.arcs → types ≡ g ++ y ∷ [] → row ≡ kinds ++ added → IsStored types row
 stored_push g types kinds added row x y t stored is few room same at new whole joined =
     let types_are : g ++ x ∷ [] ≡ types = ap (λ (z : TypeValue). g ++ z ∷ []) (sym same) ∙ sym whole in
     let row_is : kinds ++ row_of (length g + 1) x.arcs ≡ row = ap (λ (n : ℕ). kinds ++ row_of n x.arcs) (sym at) ∙ ap (λ (k : List ArcKind). kinds ++ k) (sym new) ∙ sym joined in

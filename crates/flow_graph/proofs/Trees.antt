@@ -38,7 +38,7 @@ first_passing p (y ∷ ys) (suc k) x at passes =
     (suc rest.0, rest.1, rest.2, rest.3, ap (λ (b : Bool). b || list_any p (take rest.0 ys)) no ∙ rest.4))
     (cases_Bool (p y))
 
-some_and : {X : Type 0} (o : Option X) (P : X → Type 0) → IsSomeAnd o P → (x : X) × (o ≡ Some x) × P x
+pub some_and : {X : Type 0} (o : Option X) (P : X → Type 0) → IsSomeAnd o P → (x : X) × (o ≡ Some x) × P x
 some_and None P h = absurd h
 some_and (Some x) P h = (x, refl, h)
 

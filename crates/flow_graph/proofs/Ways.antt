@@ -44,4 +44,4 @@ module _ (x : TypeValue) (is : IsFlowType x) where
   on_path v low high =
       let front = way_to v v low high (omega arith) in
       let rest = way_on x.nodes v low high (omega arith) in
-      record { before = front.0; after = rest.0; comes = front.1; goes = rest.1 }
+      record { before = front.0; after = rest.0; leads_to = front.1; leads_on = rest.1 }

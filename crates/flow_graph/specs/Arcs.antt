@@ -61,8 +61,3 @@ first_arc g t = sum_by (λ x. length x.arcs + 1) (take (t - 1) g) + 1
 -- the number of the last arc of type t
 abbrev pub last_arc : List TypeValue → ℕ → ℕ
 last_arc g t = first_arc g t + length (flow_type g t).arcs
-
--- the row that is kept beside the types is that of their arcs
-pub record IsStored (g : List TypeValue) (kinds : List ArcKind) : Type 0 where
-  pub graph : IsFlowGraph g
-  pub row : kinds ≡ numbered g

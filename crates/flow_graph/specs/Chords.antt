@@ -1,7 +1,8 @@
 -- Tree arcs, chords, and how many points a box has.
-use Rattle.std.specs.Prelude.{◌≡◌, ℕ, zero, suc, ◌+◌, ◌-◌, ◌*◌, Bool, true, false, not, ◌==◌, ◌&&◌, if◌then◌else◌, List, Option, None, Some, is_some, length, take, slice_index_or}
+use Rattle.std.specs.Prelude.{◌≡◌, ℕ, zero, suc, ◌+◌, ◌-◌, ◌*◌, ◌≤◌, ◌<◌, Bool, true, false, not, ◌==◌, ◌&&◌, if◌then◌else◌, List, Option, None, Some, is_some, length, take, slice_index_or, slice_set}
 use Rattle.std.specs.List.{list_any}
 use Rattle.std.specs.Option.{IsSomeAnd}
+use Rattle.packing_laws.specs.Instances.{IsAmong}
 use Rattle.flow_graph.specs.declared.parts.ArcKind.{ArcKind}
 use Rattle.flow_graph.specs.declared.parts.ArcKind.TheVariants.{Bin, Loss, Piece}
 use Rattle.flow_graph.specs.Arcs.{TypeValue, numbered, arc_at}
@@ -47,3 +48,17 @@ product_to f (suc n) = product_to f n * f (suc n)
 -- the number of points of a box, which has a range for each arc of the graph: the product over its chords
 abbrev pub points_of : List TypeValue → List (ℕ × ℕ) → ℕ
 points_of g ranges = product_to (λ a. if is_chord g a then count_in (range_at ranges a) else 1) (length (numbered g))
+
+-- the low part of a box that is split at k in the range of arc a
+abbrev pub low_part : List (ℕ × ℕ) → ℕ → ℕ → List (ℕ × ℕ)
+low_part ranges a k = slice_set ranges (a - 1) ((range_at ranges a).0, k)
+
+-- the high part
+abbrev pub high_part : List (ℕ × ℕ) → ℕ → ℕ → List (ℕ × ℕ)
+high_part ranges a k = slice_set ranges (a - 1) (k + 1, (range_at ranges a).1)
+
+-- the split of a box at k in the range of arc a leaves numbers of that range on both sides
+pub record IsGenuine (ranges : List (ℕ × ℕ)) (a k : ℕ) : Type 0 where
+  pub arc : IsAmong a (length ranges)
+  pub low : (range_at ranges a).0 ≤ k
+  pub high : k < (range_at ranges a).1

@@ -1,4 +1,4 @@
--- Rows of arcs and boxes that are worked by hand.
+-- Examples of arcs and boxes that are worked by hand.
 use Rattle.std.specs.Prelude.{◌≡◌, [], ◌∷◌, None, true, false, map, replicate}
 use Rattle.flow_graph.specs.declared.parts.ArcKind.TheVariants.{Bin, Loss, Piece}
 use Rattle.packing_laws.specs.Instances.{InstanceValue}
@@ -30,9 +30,10 @@ nothing_to_pack = record {
   dims = 1;
   types = record { cap = 10 ∷ []; cost = 1; limit = None } ∷ [];
   items = [];
+  caps = [];
 }
 
-pub record Rows : Type 0 where
+pub record Examples : Type 0 where
   pub two_types : numbered (one_of_two ∷ nothing_fits ∷ []) ≡ Bin 1 ∷ Loss 1 1 2 ∷ Piece 1 1 2 1 1 ∷ Piece 1 1 2 2 1 ∷ Bin 2 ∷ []
   pub first_of_second : first_arc (one_of_two ∷ nothing_fits ∷ []) 2 ≡ 5
   pub last_of_second : last_arc (one_of_two ∷ nothing_fits ∷ []) 2 ≡ 5

@@ -2,7 +2,7 @@ ghost use Rattle.std.specs.Prelude.{◌≡◌, ◌+◌, ◌≤◌, ◌++◌, ◌
 ghost use Rattle.flow_graph.specs.Arcs.{kind_of, row_of};
 
 use crate::parts::{ArcKind, TypeArc};
-use arc_num::{MAX_ARCS, MAX_TYPES, Memory};
+use arc_num::{MAX_ARCS, MAX_NUMBERED, MAX_TYPES, Memory};
 use std::alloc::Global;
 use std::marker::Model;
 
@@ -47,7 +47,8 @@ pub struct FlowGraph {
 
 impl Model for FlowGraph {
     ghost use Rattle.std.specs.Prelude.{List};
-    ghost use Rattle.flow_graph.specs.Arcs.{TypeValue, IsStored};
+    ghost use Rattle.flow_graph.specs.Arcs.{TypeValue};
+    ghost use Rattle.flow_graph.specs.inner.Stored.{IsStored};
 
     ghost Value = { List TypeValue };
 
@@ -148,7 +149,7 @@ impl FlowGraph {
     /// How many arcs there are: at most 1,000,064.
     pub fn arc_count(&self) -> u32
         ensures value { result ≡ length (numbered self.now) }
-        ensures known { result ≤ MAX_ARCS + MAX_TYPES }
+        ensures known { result ≤ MAX_NUMBERED }
     {
         self.row.len() as u32
     }
@@ -220,7 +221,7 @@ fn kind(t: u32, arc: &TypeArc) -> ArcKind
 
 // The number of the arc that comes after those of the types.
 fn number_after(types: &[FlowType]) -> u32
-    requires { sum_by (λ x. length x.arcs + 1) types.now ≤ MAX_ARCS + MAX_TYPES }
+    requires { sum_by (λ x. length x.arcs + 1) types.now ≤ MAX_NUMBERED }
     ensures { result ≡ sum_by (λ x. length x.arcs + 1) types.now + 1 }
 {
     let mut number = 1;

@@ -4,8 +4,9 @@ ghost use Rattle.std.specs.Prelude.{◌≡◌, [], ◌∷◌, IfOk};
 ghost use Rattle.flow_graph.specs.Worked.{one_of_two, nothing_fits};
 
 use crate::{
-    ArcKind, FlowGraph, TypeArc, nodes_have_tree_arcs, nodes_lie_on_paths, numbers_are_arcs,
-    paths_have_numbers, rows_are_worked,
+    ArcKind, FlowGraph, TypeArc, chords_extend, examples_come_out, nodes_are_few,
+    nodes_have_tree_arcs, nodes_lie_on_paths, numbers_are_arcs, numbers_are_unique,
+    numbers_have_kinds, paths_have_numbers, paths_join, points_are_counted, potentials_cancel,
 };
 use arc_num::Memory;
 use std::alloc::Global;
@@ -36,7 +37,7 @@ fn one_type(alloc: Global) -> Result<FlowGraph, Memory>
         item: 2,
         form: 1,
     };
-    rows_are_worked();
+    examples_come_out();
     graph.add_type(2, &[nothing, first, second])?;
     Ok(graph)
 }
@@ -46,7 +47,7 @@ fn two_types(alloc: Global) -> Result<FlowGraph, Memory>
     ensures { IfOk result (λ graph. graph ≡ one_of_two ∷ nothing_fits ∷ []) }
 {
     let mut graph = one_type(alloc)?;
-    rows_are_worked();
+    examples_come_out();
     graph.add_type(1, &[])?;
     Ok(graph)
 }
@@ -97,6 +98,13 @@ fn the_second_type_has_the_next_numbers(rt: HostRuntime) -> Result<(), Fail> {
     nodes_lie_on_paths();
     nodes_have_tree_arcs();
     paths_have_numbers();
+    numbers_have_kinds();
+    numbers_are_unique();
+    nodes_are_few();
+    paths_join();
+    chords_extend();
+    potentials_cancel();
+    points_are_counted();
     assert_eq!(rt; (graph.type_count(), graph.arc_count()), (2, 5));
     assert_eq!(rt; graph.arc(5), Some(ArcKind::Bin { t: 2 }));
     assert_eq!(rt; graph.arcs_of(1), Some((1, 4)));

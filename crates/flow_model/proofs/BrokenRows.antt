@@ -11,9 +11,11 @@ use Rattle.flow_graph.specs.Chords.{range_at}
 use Rattle.flow_model.specs.declared.flows.FlowRow.{FlowRow}
 use Rattle.flow_model.specs.declared.flows.FlowRow.TheVariants.{Node, Demand, Bound}
 use Rattle.flow_model.specs.Boxes.{root_range, root_ranges, upper_of}
-use Rattle.flow_model.specs.Flows.{up_to, nodes_from, all_nodes, flow_rows, Keeps, FirstBroken, FirstBadRow, IsFlow, IsConserved, IsServed, IsBounded, total_of, comes_in, goes_out, carries}
+use Rattle.flow_graph.specs.Ends.{comes_in, goes_out}
+use Rattle.flow_model.specs.Flows.{up_to, nodes_from, all_nodes, flow_rows, Keeps, FirstBroken, FirstBadRow, IsFlow, IsConserved, IsServed, IsBounded, total_of, carries}
 use Rattle.flow_model.specs.Models.{node_place}
-use Rattle.flow_model.specs.Tallies.{TallyValue, IsTallyOf, IsFilled}
+use Rattle.flow_model.specs.Tallies.{TallyValue, IsTallyOf}
+use Rattle.flow_model.specs.inner.Sums.{IsFilled}
 use Rattle.flow_model.proofs.RowLists.{map-map, nodes_from-append, nodes_from_more}
 
 All_left : {X : Type 0} (P : X → Type 0) (xs ys : List X) → All P (xs ++ ys) → All P xs
@@ -174,13 +176,13 @@ module _ (I : InstanceValue) (g : List TypeValue) (values : List ℕ) where
   answered (Some row) size broken = (λ none. cc, λ is. absurd (broken.4 (All-head Kept row broken.1 (All_right Kept broken.0 (row ∷ broken.1) (subst (All Kept) broken.2 (rows_hold is))))))
 
   -- the sums of a tally at the place of a node
-  pub conserved_at : (tally : TallyValue) → IsTallyOf g tally → IsFilled I g values tally → (t i start comes goes : ℕ) → IsAmong t (length g) → i < (flow_type g t).nodes → start ≡ get_or tally.starts (t - 1) 0 → comes ≡ get_or tally.comes (start + i) 0 → goes ≡ get_or tally.goes (start + i) 0 → (comes ≡ goes) ↔ IsConserved g values t (i + 1)
-  conserved_at tally room is t i start comes goes among node begin coming going =
+  pub conserved_at : (tally : TallyValue) → IsTallyOf g tally → IsFilled I g values tally → (t i start inflow outflow : ℕ) → IsAmong t (length g) → i < (flow_type g t).nodes → start ≡ get_or tally.starts (t - 1) 0 → inflow ≡ get_or tally.inflow (start + i) 0 → outflow ≡ get_or tally.outflow (start + i) 0 → (inflow ≡ outflow) ↔ IsConserved g values t (i + 1)
+  conserved_at tally room is t i start inflow outflow among node begin coming going =
       let first = room.starts.each (t - 1) (omega (arith, among.0, among.1)) in
       let at : node_place g t (i + 1) - 1 ≡ start + i = omega (arith, first, begin) in
       let here : IsAmong (i + 1) (flow_type g t).nodes = (omega arith, omega (arith, node)) in
-      let one : comes ≡ total_of (comes_in t (i + 1)) g values = coming ∙ ap (λ (k : ℕ). get_or tally.comes k 0) (sym at) ∙ is.comes t (i + 1) among here in
-      let two : goes ≡ total_of (goes_out g t (i + 1)) g values = going ∙ ap (λ (k : ℕ). get_or tally.goes k 0) (sym at) ∙ is.goes t (i + 1) among here in
+      let one : inflow ≡ total_of (comes_in t (i + 1)) g values = coming ∙ ap (λ (k : ℕ). get_or tally.inflow k 0) (sym at) ∙ is.inflow t (i + 1) among here in
+      let two : outflow ≡ total_of (goes_out g t (i + 1)) g values = going ∙ ap (λ (k : ℕ). get_or tally.outflow k 0) (sym at) ∙ is.outflow t (i + 1) among here in
       (λ same. sym one ∙ same ∙ two, λ same. one ∙ same ∙ sym two)
 
   pub served_at : (tally : TallyValue) → IsFilled I g values tally → (i : ℕ) → i < length I.items → (carried demand : ℕ) → carried ≡ get_or tally.items i 0 → demand ≡ (item_at I (i + 1)).demand → (demand ≤ carried) ↔ IsServed I g values (i + 1)

@@ -11,7 +11,7 @@ use Rattle.std.proofs.lemmas.List.Sums.{sum_by-le}
 use Rattle.std.proofs.lemmas.List.FromFn.{length-enumerate_from, get_or-enumerate_from}
 use Rattle.std.proofs.lemmas.List.Elements.{All-cons, All-nil, All-weaker}
 use Rattle.std.proofs.lemmas.List.Kept.{AllPairs-cons}
-use Rattle.arc_num.specs.declared.TheConstants.{MAX_DEMAND, MAX_ITEMS}
+use Rattle.arc_num.specs.declared.TheConstants.{MAX_DEMAND, MAX_ITEMS, MAX_UNITS}
 use Rattle.packing_laws.specs.declared.instances.Item.{Item}
 use Rattle.packing_laws.specs.Instances.{InstanceValue, IsInstance, IsAmong, type_at, item_at, units_of}
 use Rattle.packing_laws.specs.Packings.{cost_at}
@@ -26,10 +26,11 @@ use Rattle.flow_model.specs.Boxes.{limited, upper_of}
 use Rattle.flow_model.specs.Flows.{arc_cost}
 use Rattle.flow_model.specs.Models.{node_place, item_place, node_row, item_row, model_rows, model_columns, moves, entries_of, arc_name, arc_column, program_of_model, ModelsArePrograms}
 use Rattle.flow_model.specs.Programs.{IsRow, IsEntry, IsColumn, row_names, column_names}
-use Rattle.flow_model.specs.Places.{IsArcOf, GraphKnown}
-use Rattle.flow_model.proofs.ArcsKnown.{graph_known, arcs_known}
+use Rattle.flow_graph.proofs.ArcKinds.{some_same}
+use Rattle.flow_model.specs.inner.Known.{IsArcOf, IsKnownGraph}
+use Rattle.flow_model.proofs.ArcsKnown.{known_graph, arcs_known}
 use Rattle.flow_model.proofs.NodePlaces.{place_fits}
-use Rattle.flow_model.proofs.Solutions.{row_node, row_item, row_cases, rows_long, some_same, source, low_node, high_node}
+use Rattle.flow_model.proofs.Solutions.{row_node, row_item, row_cases, rows_long, source, low_node, high_node}
 use Rattle.flow_model.proofs.Names.{objective_named, item_named, arc_named, node_named, node_names, item_names, arc_names, node_not_item, node_not_objective, item_not_objective}
 
 get_or-map : {X Y : Type 0} (f : X → Y) (xs : List X) (i : ℕ) (d : X) → get_or (map f xs) i (f d) ≡ f (get_or xs i d)
@@ -37,12 +38,12 @@ get_or-map f [] i d = refl
 get_or-map f (x ∷ xs) zero d = refl
 get_or-map f (x ∷ xs) (suc i) d = get_or-map f xs i d
 
-units_few : (I : InstanceValue) → IsInstance I → units_of I ≤ 1000000000
+units_few : (I : InstanceValue) → IsInstance I → units_of I ≤ MAX_UNITS
 units_few I is =
     let most : units_of I ≤ length I.items * MAX_DEMAND = sum_by-le (λ (x : Item). x.demand) MAX_DEMAND I.items (λ k d within. (is.items k d within).demand) in
     let few : length I.items ≤ MAX_ITEMS = is.item_count in
     let bound : length I.items * MAX_DEMAND ≤ MAX_ITEMS * MAX_DEMAND = mul-le-mul_right MAX_DEMAND few in
-    let limit : MAX_ITEMS * MAX_DEMAND ≤ 1000000000 = omega arith in
+    let limit : MAX_ITEMS * MAX_DEMAND ≤ MAX_UNITS = omega arith in
     omega (arith, most, bound, limit)
 
 limited_few : (n : ℕ) (limit : Option ℕ) → limited n limit ≤ n
@@ -107,8 +108,8 @@ moves_with n p q rest low high after_p after_q are = ⊎_elim
       enters = record { row = q; value = pos 1 }
 
 module _ (I : InstanceValue) (g : List TypeValue) (instance : IsInstance I) (graph : IsFlowGraph g) (of : GraphOf I g) where
-  known : GraphKnown I g
-  known = graph_known I g instance graph of
+  known : IsKnownGraph I g
+  known = known_graph I g instance graph of
 
   abbrev count : ℕ
   count = length (model_rows I g)

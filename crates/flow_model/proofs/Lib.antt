@@ -10,3 +10,8 @@ pub mod Solutions
 pub mod Names
 pub mod Lawful
 pub mod Examples
+pub mod BoxParts
+pub mod PriceSums
+pub mod SignedFlows
+pub mod ProgramLaws
+pub mod RootBoxes

@@ -4,16 +4,19 @@ use Rattle.std.proofs.lemmas.Bool.{cases_eq, cases_order, eq-eqb, ne_eqb, and_fr
 use Rattle.std.proofs.lemmas.List.{take-take}
 use Rattle.std.proofs.lemmas.List.Sums.{sum_by_more, sum_by-take-le}
 use Rattle.std.proofs.lemmas.List.Elements.{All-weaker, All-head, All-tail}
+use Rattle.arc_num.specs.declared.TheConstants.{MAX_ITEMS}
 use Rattle.packing_laws.specs.Instances.{InstanceValue, IsInstance, IsAmong}
 use Rattle.flow_graph.specs.declared.parts.ArcKind.{ArcKind}
 use Rattle.flow_graph.specs.declared.parts.ArcKind.TheVariants.{Bin, Loss, Piece}
 use Rattle.flow_graph.specs.Arcs.{TypeValue, IsFlowGraph, flow_type, numbered}
 use Rattle.flow_graph.specs.Faithful.{GraphOf}
-use Rattle.flow_model.specs.Flows.{weigh_arcs, comes_in, goes_out}
+use Rattle.flow_graph.specs.Ends.{comes_in, goes_out}
+use Rattle.flow_model.specs.Flows.{weigh_arcs}
 use Rattle.flow_model.specs.Models.{node_place}
-use Rattle.flow_model.specs.Places.{IsBetween, IsArcOf, GraphKnown, AreStarts}
-use Rattle.flow_model.specs.Tallies.{TallyValue, IsTallyOf, IsPlaced, Holds, IsFilled, tail_in, head_in}
-use Rattle.flow_model.proofs.ArcsKnown.{graph_known, arcs_known}
+use Rattle.flow_model.specs.Tallies.{AreStarts, TallyValue, IsTallyOf}
+use Rattle.flow_model.specs.inner.Known.{IsBetween, IsArcOf, IsKnownGraph}
+use Rattle.flow_model.specs.inner.Sums.{IsPlaced, Holds, IsFilled, tail_in, head_in}
+use Rattle.flow_model.proofs.ArcsKnown.{known_graph, arcs_known}
 
 -- how many nodes the first types have
 abbrev first_nodes : List TypeValue → ℕ → ℕ
@@ -99,19 +102,19 @@ module _ (g : List TypeValue) (n : ℕ) (sources : All (λ x. 1 ≤ x.nodes) g) 
 pub filled : (I : InstanceValue) (g : List TypeValue) (values : List ℕ) (tally : TallyValue) → IsInstance I → IsFlowGraph g → GraphOf I g → IsTallyOf g tally → Holds (numbered g) values tally → IsFilled I g values tally
 filled I g values tally instance is of room held =
     let arcs : All (IsArcOf (length I.items) g) (numbered g) = arcs_known I g is of in
-    let known : GraphKnown I g = graph_known I g instance is of in
+    let known : IsKnownGraph I g = known_graph I g instance is of in
     record {
-      comes = λ t v among node.
+      inflow = λ t v among node.
           let fits = place_fits g t v among node in
-          let wide = room.comes in
+          let wide = room.inflow in
           let e : node_place g t v - 1 + 1 ≡ node_place g t v = omega (arith, fits.0) in
-          let sum = held.comes (node_place g t v - 1) (omega (arith, fits.0, fits.1, wide)) in
+          let sum = held.inflow (node_place g t v - 1) (omega (arith, fits.0, fits.1, wide)) in
           rw e at sum ∙ weigh_agree (λ kind. cond (head_in tally.starts kind == node_place g t v) 1 0) (λ kind. cond (comes_in t v kind) 1 0) (numbered g) values (All-weaker (IsArcOf (length I.items) g) (λ kind. cond {A = ℕ} (head_in tally.starts kind == node_place g t v) 1 0 ≡ cond (comes_in t v kind) 1 0) (λ kind own. ap (λ (b : Bool). cond {A = ℕ} b 1 0) (comes_test g (length I.items) known.sources t v among node tally.starts room.starts kind own)) (numbered g) arcs);
-      goes = λ t v among node.
+      outflow = λ t v among node.
           let fits = place_fits g t v among node in
-          let wide = room.goes in
+          let wide = room.outflow in
           let e : node_place g t v - 1 + 1 ≡ node_place g t v = omega (arith, fits.0) in
-          let sum = held.goes (node_place g t v - 1) (omega (arith, fits.0, fits.1, wide)) in
+          let sum = held.outflow (node_place g t v - 1) (omega (arith, fits.0, fits.1, wide)) in
           rw e at sum ∙ weigh_agree (λ kind. cond (tail_in tally.starts kind == node_place g t v) 1 0) (λ kind. cond (goes_out g t v kind) 1 0) (numbered g) values (All-weaker (IsArcOf (length I.items) g) (λ kind. cond {A = ℕ} (tail_in tally.starts kind == node_place g t v) 1 0 ≡ cond (goes_out g t v kind) 1 0) (λ kind own. ap (λ (b : Bool). cond {A = ℕ} b 1 0) (goes_test g (length I.items) known.sources t v among node tally.starts room.starts kind own)) (numbered g) arcs);
       items = λ i among.
           let e : i - 1 + 1 ≡ i = omega (arith, among.0) in
@@ -134,7 +137,7 @@ placed_between g starts n are whole t tail head own =
     ((among.0, omega (arith, size, among.1)), (omega (arith, one.0, begin), omega (arith, one.1, begin, whole)), (omega (arith, two.0, begin), omega (arith, two.1, begin, whole)))
 
 -- each arc has its places
-placed : (g : List TypeValue) (starts : List ℕ) (n : ℕ) → All (λ x. 1 ≤ x.nodes) g → AreStarts g starts → n ≡ sum_by (λ x. x.nodes) g → (kind : ArcKind) → IsArcOf 1000 g kind → IsPlaced n starts kind
+placed : (g : List TypeValue) (starts : List ℕ) (n : ℕ) → All (λ x. 1 ≤ x.nodes) g → AreStarts g starts → n ≡ sum_by (λ x. x.nodes) g → (kind : ArcKind) → IsArcOf MAX_ITEMS g kind → IsPlaced n starts kind
 placed g starts n sources are whole (Bin t) among =
     let size = are.size in
     let low : 1 ≤ (flow_type g t).nodes = sources (t - 1) (record { nodes = 1; arcs = [] }) (omega (arith, among.0, among.1)) in
@@ -155,5 +158,5 @@ placed g starts n sources are whole (Piece t tail head item form) own =
     let base = placed_between g starts n are whole t tail head own.0 in
     record { of_type = (base.0.0, base.0.1, own.1); tail = base.1; head = base.2 }
 
-pub all_placed : (I : InstanceValue) (g : List TypeValue) (tally : TallyValue) → GraphKnown I g → IsTallyOf g tally → All (IsPlaced (length tally.comes) tally.starts) (numbered g)
-all_placed I g tally known room = All-weaker (IsArcOf 1000 g) (IsPlaced (length tally.comes) tally.starts) (placed g tally.starts (length tally.comes) known.sources room.starts room.comes) (numbered g) known.arcs
+pub all_placed : (I : InstanceValue) (g : List TypeValue) (tally : TallyValue) → IsKnownGraph I g → IsTallyOf g tally → All (IsPlaced (length tally.inflow) tally.starts) (numbered g)
+all_placed I g tally known room = All-weaker (IsArcOf MAX_ITEMS g) (IsPlaced (length tally.inflow) tally.starts) (placed g tally.starts (length tally.inflow) known.sources room.starts room.inflow) (numbered g) known.arcs

@@ -21,15 +21,16 @@ use Rattle.flow_graph.specs.Chords.{range_at}
 use Rattle.flow_graph.specs.Faithful.{IsFaithful}
 use Rattle.flow_graph.proofs.Places.{arc_at-suc, path_numbers}
 use Rattle.flow_model.specs.Boxes.{limited, upper_of, root_ranges}
-use Rattle.flow_model.specs.Flows.{IsBounded, weigh_arcs, comes_in, goes_out, carries, arc_cost, flow_cost}
+use Rattle.flow_graph.specs.Ends.{comes_in, goes_out}
+use Rattle.flow_model.specs.Flows.{IsBounded, weigh_arcs, carries, arc_cost, flow_cost}
 use Rattle.flow_model.specs.Packed.{IsWayOf, FlowOfPacking, PackingsAreFlows}
 use Rattle.flow_model.proofs.Counts.{at, counts_from, weigh_counts}
 use Rattle.flow_model.proofs.Ways.{one_if, most, way_conserved, way_cost, way_carries, way_most}
-use Rattle.flow_model.specs.Places.{IsArcOf}
+use Rattle.flow_model.specs.inner.Known.{IsArcOf}
 use Rattle.flow_model.proofs.ArcsKnown.{arcs_known}
 use Rattle.flow_model.proofs.BrokenRows.{range_is}
 
-abbrev all_ways : List (List ℕ) → List ℕ
+abbrev pub all_ways : List (List ℕ) → List ℕ
 all_ways ways = flat_map (λ way. way) ways
 
 -- sums over ways, bin by bin

@@ -14,16 +14,18 @@ use Rattle.flow_graph.specs.declared.parts.ArcKind.{ArcKind}
 use Rattle.flow_graph.specs.declared.parts.ArcKind.TheVariants.{Bin, Loss, Piece}
 use Rattle.flow_graph.specs.Arcs.{TypeValue, IsFlowGraph, flow_type, numbered}
 use Rattle.flow_graph.specs.Faithful.{GraphOf}
+use Rattle.flow_graph.proofs.ArcKinds.{some_same}
 use Rattle.flow_graph.proofs.Places.{slice_get-append-add, slice_get-append-left}
 use Rattle.flow_model.specs.declared.programs.Row.{Row}
 use Rattle.flow_model.specs.declared.programs.Entry.{Entry}
 use Rattle.flow_model.specs.declared.programs.Column.{Column}
 use Rattle.flow_model.specs.Boxes.{upper_of}
-use Rattle.flow_model.specs.Flows.{IsFlow, weigh_arcs, comes_in, goes_out, carries, arc_cost, flow_cost, up_to, nodes_from, all_nodes}
+use Rattle.flow_graph.specs.Ends.{comes_in, goes_out}
+use Rattle.flow_model.specs.Flows.{IsFlow, weigh_arcs, carries, arc_cost, flow_cost, up_to, nodes_from, all_nodes}
 use Rattle.flow_model.specs.Models.{node_place, item_place, node_row, item_row, model_rows, moves, entries_of, arc_column, program_of_model, SolutionsAreFlows}
 use Rattle.flow_model.specs.Programs.{entry_in, weigh, row_sum, objective_of, Meets, AreWithin, IsSolution}
-use Rattle.flow_model.specs.Places.{IsBetween, IsArcOf, GraphKnown}
-use Rattle.flow_model.proofs.ArcsKnown.{graph_known, arcs_known}
+use Rattle.flow_model.specs.inner.Known.{IsBetween, IsArcOf, IsKnownGraph}
+use Rattle.flow_model.proofs.ArcsKnown.{known_graph, arcs_known}
 use Rattle.flow_model.proofs.NodePlaces.{place_test, place_fits}
 use Rattle.flow_model.proofs.RowLists.{nodes_from_more, nodes_from-append, starts_more}
 use Rattle.flow_model.proofs.BrokenRows.{bounded_at}
@@ -102,9 +104,6 @@ shift_test a b c = ⊎_elim
     (λ same. eq-eqb (a + b) (a + c) (omega (arith, same)) ∙ sym (eq-eqb b c same))
     (λ other. ne_eqb (a + b) (a + c) (λ e. other (omega (arith, e))) ∙ sym (ne_eqb b c other))
     (cases_eq b c)
-
-pub some_same : {X : Type 0} (x y : X) → Some x ≡ Some y → x ≡ y
-some_same x y h = cc
 
 -- the places of rows
 abbrev first_nodes : List TypeValue → ℕ → ℕ
@@ -275,8 +274,8 @@ bounds_from I g n (kind ∷ kinds) [] h = let size = h.0 in absurd (omega (arith
 bounds_from I g n (kind ∷ kinds) (x ∷ values) h = (omega arith, h.1 0 kind (omega arith), bounds_from I g (n + 1) kinds values (let size = h.0 in omega (arith, size), λ i d within. h.1 (suc i) d (omega (arith, within))))
 
 module _ (I : InstanceValue) (g : List TypeValue) (values : List ℕ) (instance : IsInstance I) (graph : IsFlowGraph g) (of : GraphOf I g) where
-  known : GraphKnown I g
-  known = graph_known I g instance graph of
+  known : IsKnownGraph I g
+  known = known_graph I g instance graph of
 
   arcs : All (IsArcOf (length I.items) g) (numbered g)
   arcs = arcs_known I g graph of

@@ -2,11 +2,13 @@
 use Rattle.std.proofs.Common.{◌≡◌, ℕ, zero, suc, ◌+◌, ◌-◌, ◌*◌, ◌^◌, ◌<◌, ◌≤◌, cond, ◌==◌, List, [], ◌∷◌, length, get_or, set, take, refl, sym, ap, ◌∙◌, subst, ⊎_elim, arith}
 use Rattle.std.proofs.lemmas.Bool.{cases_eq, eq-eqb, ne_eqb, cond-true, cond-false}
 use Rattle.std.proofs.lemmas.List.{get_or-set_same, get_or-set_other, length-set}
+use Rattle.arc_num.specs.declared.TheConstants.{MAX_ITEMS}
 use Rattle.packing_laws.specs.Instances.{IsAmong}
 use Rattle.flow_graph.specs.declared.parts.ArcKind.{ArcKind}
 use Rattle.flow_graph.specs.declared.parts.ArcKind.TheVariants.{Bin, Loss, Piece}
 use Rattle.flow_model.specs.Flows.{weigh_arcs, carries}
-use Rattle.flow_model.specs.Tallies.{TallyValue, HasShapeOf, IsTypeIn, IsPlaced, IsRaised, AreBelow, Holds, tail_in, head_in, raised, raised_by}
+use Rattle.flow_model.specs.Tallies.{TallyValue}
+use Rattle.flow_model.specs.inner.Sums.{HasShapeOf, IsTypeIn, IsPlaced, IsRaised, AreBelow, Holds, tail_in, head_in, raised, raised_by}
 
 pub weigh_more : (f : ArcKind → ℕ) (kinds : List ArcKind) (values : List ℕ) (i : ℕ) (d : ArcKind) → i < length kinds → length values ≡ length kinds → weigh_arcs f (take (suc i) kinds) (take (suc i) values) ≡ weigh_arcs f (take i kinds) (take i values) + f (get_or kinds i d) * get_or values i 0
 weigh_more f [] values i d within size = absurd (omega (arith, within))
@@ -39,12 +41,12 @@ raised_le sums p x j among =
     (λ other. let none : cond {A = ℕ} (p == j + 1) 1 0 ≡ 0 = cond-false (p == j + 1) 1 0 (ne_eqb p (j + 1) other) in rw at (rw none (omega arith)))
     (cases_eq p (j + 1))
 
-item_at : (starts items : List ℕ) (kind : ArcKind) (x j : ℕ) → length items ≡ 1000 → IsTypeIn starts kind → get_or (raised_by items kind x) j 0 ≡ get_or items j 0 + cond (carries (j + 1) kind) 1 0 * x
+item_at : (starts items : List ℕ) (kind : ArcKind) (x j : ℕ) → length items ≡ MAX_ITEMS → IsTypeIn starts kind → get_or (raised_by items kind x) j 0 ≡ get_or items j 0 + cond (carries (j + 1) kind) 1 0 * x
 item_at starts items (Bin t) x j size own = omega arith
 item_at starts items (Loss t tail head) x j size own = omega arith
 item_at starts items (Piece t tail head item form) x j size own = raised_at items item x j (own.2.0, omega (arith, own.2.1, size))
 
-item_le : (starts items : List ℕ) (kind : ArcKind) (x j : ℕ) → length items ≡ 1000 → IsTypeIn starts kind → get_or (raised_by items kind x) j 0 ≤ get_or items j 0 + x
+item_le : (starts items : List ℕ) (kind : ArcKind) (x j : ℕ) → length items ≡ MAX_ITEMS → IsTypeIn starts kind → get_or (raised_by items kind x) j 0 ≤ get_or items j 0 + x
 item_le starts items (Bin t) x j size own = omega arith
 item_le starts items (Loss t tail head) x j size own = omega arith
 item_le starts items (Piece t tail head item form) x j size own = raised_le items item x j (own.2.0, omega (arith, own.2.1, size))
@@ -57,39 +59,39 @@ item_size items (Piece t tail head item form) x = length-set items (item - 1) (g
 pub shape_more : (first old new : TallyValue) (kind : ArcKind) (x : ℕ) → HasShapeOf first old → IsRaised old new kind x → HasShapeOf first new
 shape_more first old new kind x shape more = record {
   starts = more.starts ∙ shape.starts;
-  comes = ap length more.comes ∙ length-set old.comes (head_in old.starts kind - 1) (get_or old.comes (head_in old.starts kind - 1) 0 + x) ∙ shape.comes;
-  goes = ap length more.goes ∙ length-set old.goes (tail_in old.starts kind - 1) (get_or old.goes (tail_in old.starts kind - 1) 0 + x) ∙ shape.goes;
+  inflow = ap length more.inflow ∙ length-set old.inflow (head_in old.starts kind - 1) (get_or old.inflow (head_in old.starts kind - 1) 0 + x) ∙ shape.inflow;
+  outflow = ap length more.outflow ∙ length-set old.outflow (tail_in old.starts kind - 1) (get_or old.outflow (tail_in old.starts kind - 1) 0 + x) ∙ shape.outflow;
   items = ap length more.items ∙ item_size old.items kind x ∙ shape.items;
 }
 
-module _ (old new : TallyValue) (kind : ArcKind) (x : ℕ) (placed : IsPlaced (length old.comes) old.starts kind) (even : length old.goes ≡ length old.comes) (items : length old.items ≡ 1000) (more : IsRaised old new kind x) where
-  at_tail : IsAmong (tail_in old.starts kind) (length old.goes)
+module _ (old new : TallyValue) (kind : ArcKind) (x : ℕ) (placed : IsPlaced (length old.inflow) old.starts kind) (even : length old.outflow ≡ length old.inflow) (items : length old.items ≡ MAX_ITEMS) (more : IsRaised old new kind x) where
+  at_tail : IsAmong (tail_in old.starts kind) (length old.outflow)
   at_tail = (placed.tail.0, subst (λ (n : ℕ). tail_in old.starts kind ≤ n) (sym even) placed.tail.1)
 
   pub below_more : (i : ℕ) → x < 2 ^ 64 → AreBelow (i * 2 ^ 64) old → AreBelow ((i + 1) * 2 ^ 64) new
   below_more i small below = record {
-    comes = λ j. let up = raised_le old.comes (head_in old.starts kind) x j placed.head in let own = below.comes j in rw more.comes (omega (arith, up, own, small));
-    goes = λ j. let up = raised_le old.goes (tail_in old.starts kind) x j at_tail in let own = below.goes j in rw more.goes (omega (arith, up, own, small));
+    inflow = λ j. let up = raised_le old.inflow (head_in old.starts kind) x j placed.head in let own = below.inflow j in rw more.inflow (omega (arith, up, own, small));
+    outflow = λ j. let up = raised_le old.outflow (tail_in old.starts kind) x j at_tail in let own = below.outflow j in rw more.outflow (omega (arith, up, own, small));
     items = λ j. let up = item_le old.starts old.items kind x j items placed.of_type in let own = below.items j in rw more.items (omega (arith, up, own, small));
   }
 
   pub holds_more : (kinds : List ArcKind) (values : List ℕ) (i : ℕ) (d : ArcKind) → i < length kinds → length values ≡ length kinds → kind ≡ get_or kinds i d → x ≡ get_or values i 0 → Holds (take i kinds) (take i values) old → Holds (take (suc i) kinds) (take (suc i) values) new
   holds_more kinds values i d within size read value held =
       let next : (f : ArcKind → ℕ) → weigh_arcs f (take (suc i) kinds) (take (suc i) values) ≡ weigh_arcs f (take i kinds) (take i values) + f kind * x = λ f. weigh_more f kinds values i d within size ∙ (λ k. weigh_arcs f (take i kinds) (take i values) + f (sym read k) * sym value k) in
-      let wide : length new.comes ≡ length old.comes = ap length more.comes ∙ length-set old.comes (head_in old.starts kind - 1) (get_or old.comes (head_in old.starts kind - 1) 0 + x) in
-      let long : length new.goes ≡ length old.goes = ap length more.goes ∙ length-set old.goes (tail_in old.starts kind - 1) (get_or old.goes (tail_in old.starts kind - 1) 0 + x) in
+      let wide : length new.inflow ≡ length old.inflow = ap length more.inflow ∙ length-set old.inflow (head_in old.starts kind - 1) (get_or old.inflow (head_in old.starts kind - 1) 0 + x) in
+      let long : length new.outflow ≡ length old.outflow = ap length more.outflow ∙ length-set old.outflow (tail_in old.starts kind - 1) (get_or old.outflow (tail_in old.starts kind - 1) 0 + x) in
       let far : length new.items ≡ length old.items = ap length more.items ∙ item_size old.items kind x in
       record {
-        comes = λ j short.
-            let own : get_or old.comes j 0 ≡ weigh_arcs (λ k. cond (head_in old.starts k == j + 1) 1 0) (take i kinds) (take i values) = held.comes j (omega (arith, short, wide)) in
-            let at = raised_at old.comes (head_in old.starts kind) x j placed.head in
+        inflow = λ j short.
+            let own : get_or old.inflow j 0 ≡ weigh_arcs (λ k. cond (head_in old.starts k == j + 1) 1 0) (take i kinds) (take i values) = held.inflow j (omega (arith, short, wide)) in
+            let at = raised_at old.inflow (head_in old.starts kind) x j placed.head in
             let step = next (λ k. cond (head_in old.starts k == j + 1) 1 0) in
-            rw (more.comes, more.starts) (at ∙ ap (λ (n : ℕ). n + cond (head_in old.starts kind == j + 1) 1 0 * x) own ∙ sym step);
-        goes = λ j short.
-            let own : get_or old.goes j 0 ≡ weigh_arcs (λ k. cond (tail_in old.starts k == j + 1) 1 0) (take i kinds) (take i values) = held.goes j (omega (arith, short, long)) in
-            let at = raised_at old.goes (tail_in old.starts kind) x j at_tail in
+            rw (more.inflow, more.starts) (at ∙ ap (λ (n : ℕ). n + cond (head_in old.starts kind == j + 1) 1 0 * x) own ∙ sym step);
+        outflow = λ j short.
+            let own : get_or old.outflow j 0 ≡ weigh_arcs (λ k. cond (tail_in old.starts k == j + 1) 1 0) (take i kinds) (take i values) = held.outflow j (omega (arith, short, long)) in
+            let at = raised_at old.outflow (tail_in old.starts kind) x j at_tail in
             let step = next (λ k. cond (tail_in old.starts k == j + 1) 1 0) in
-            rw (more.goes, more.starts) (at ∙ ap (λ (n : ℕ). n + cond (tail_in old.starts kind == j + 1) 1 0 * x) own ∙ sym step);
+            rw (more.outflow, more.starts) (at ∙ ap (λ (n : ℕ). n + cond (tail_in old.starts kind == j + 1) 1 0 * x) own ∙ sym step);
         items = λ j short.
             let own : get_or old.items j 0 ≡ weigh_arcs (λ k. cond (carries (j + 1) k) 1 0) (take i kinds) (take i values) = held.items j (omega (arith, short, far)) in
             let at = item_at old.starts old.items kind x j items placed.of_type in

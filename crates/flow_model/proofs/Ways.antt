@@ -13,8 +13,10 @@ use Rattle.flow_graph.specs.declared.parts.ArcKind.{ArcKind}
 use Rattle.flow_graph.specs.declared.parts.ArcKind.TheVariants.{Bin, Loss, Piece}
 use Rattle.flow_graph.specs.Arcs.{TypeValue, IsFlowType, IsFlowGraph, flow_type, numbered, arc_at, kind_of, first_arc}
 use Rattle.flow_graph.specs.Faithful.{IsPath, AreNumbersOf, content_of, unit_of}
+use Rattle.flow_graph.proofs.ArcKinds.{comes_kind, goes_kind, kind_cases, some_same, tail_kind, tail_of}
 use Rattle.flow_graph.proofs.Places.{has_numbers}
-use Rattle.flow_model.specs.Flows.{comes_in, goes_out, carries, arc_cost}
+use Rattle.flow_graph.specs.Ends.{comes_in, goes_out}
+use Rattle.flow_model.specs.Flows.{carries, arc_cost}
 use Rattle.flow_model.specs.Packed.{IsWayOf}
 use Rattle.flow_model.proofs.Counts.{at, at_arc, at_path, sum_by-zero}
 
@@ -25,19 +27,6 @@ way_sum g f bin way among is =
     let rest = at_path g f bin.0 is.numbers is.path is.are in
     let whole : sum_by (at f (numbered g) 1) (first_arc g bin.0 ∷ is.numbers) ≡ at f (numbered g) 1 (first_arc g bin.0) + sum_by (at f (numbered g) 1) is.numbers = sum_by-cons (at f (numbered g) 1) (first_arc g bin.0) is.numbers in
     ap (sum_by (at f (numbered g) 1)) is.closed ∙ omega (arith, first, rest, whole)
-
--- whatever is said alike of loss arcs and others is said of the arc of a type
-kind_cases : (Q : ArcKind → Type 0) (t : ℕ) (e : TypeArc) → Q (Loss t e.tail e.head) → Q (Piece t e.tail e.head e.item e.form) → Q (kind_of t e)
-kind_cases Q t e loss piece = ⊎_elim
-    (λ none. rw (eq-eqb e.item 0 none) loss)
-    (λ some. rw (ne_eqb e.item 0 some) piece)
-    (cases_eq e.item 0)
-
-comes_kind : (t v s : ℕ) (e : TypeArc) → comes_in t v (kind_of s e) ≡ ((s == t) && (e.head == v))
-comes_kind t v s e = kind_cases (λ kind. comes_in t v kind ≡ ((s == t) && (e.head == v))) s e refl refl
-
-goes_kind : (g : List TypeValue) (t v s : ℕ) (e : TypeArc) → goes_out g t v (kind_of s e) ≡ ((s == t) && (e.tail == v))
-goes_kind g t v s e = kind_cases (λ kind. goes_out g t v kind ≡ ((s == t) && (e.tail == v))) s e refl refl
 
 -- a path leaves each node as often as it enters it, but for its two ends
 path_conserved : (arcs : List TypeArc) (q : Bool) (v a b : ℕ) (path : List TypeArc) → IsPath arcs a b path → sum_by (λ e. cond (q && (e.head == v)) 1 0) path + cond (q && (a == v)) 1 0 ≡ sum_by (λ e. cond (q && (e.tail == v)) 1 0) path + cond (q && (b == v)) 1 0
@@ -103,18 +92,6 @@ way_carries g i low bin way among is =
     let path = path_carries i bin.0 low is.path in
     let same = same-item i (content_of is.path) bin.1 is.content in
     omega (arith, one, path, same)
-
--- the node that an arc goes out of; 0 for a bin arc
-abbrev tail_of : ArcKind → ℕ
-tail_of (Bin t) = 0
-tail_of (Loss t tail head) = tail
-tail_of (Piece t tail head item form) = tail
-
-tail_kind : (s : ℕ) (e : TypeArc) → tail_of (kind_of s e) ≡ e.tail
-tail_kind s e = kind_cases (λ kind. tail_of kind ≡ e.tail) s e refl refl
-
-some_same : {X : Type 0} (x y : X) → Some x ≡ Some y → x ≡ y
-some_same x y h = cc
 
 -- an arc that goes out before a node is on no path from there on, and no arc is twice on a path
 module _ (g : List TypeValue) (s : ℕ) (up : All (λ e. (1 ≤ e.tail) × (e.tail < e.head) × (e.head ≤ (flow_type g s).nodes)) (flow_type g s).arcs) (a : ℕ) (kind : ArcKind) (is : arc_at g a ≡ Some kind) where

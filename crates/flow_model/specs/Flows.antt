@@ -1,26 +1,14 @@
 -- Flows on the arcs of all types, and the rows that they meet.
-use Rattle.std.specs.Prelude.{◌≡◌, ℕ, zero, suc, ◌+◌, ◌-◌, ◌*◌, ◌≤◌, Bool, false, ◌==◌, ◌&&◌, if◌then◌else◌, List, [], ◌∷◌, ◌++◌, length, map, Option, None, Some, All, slice_index}
+use Rattle.std.specs.Prelude.{◌≡◌, ℕ, zero, suc, ◌+◌, ◌*◌, ◌≤◌, Bool, false, ◌==◌, if◌then◌else◌, List, [], ◌∷◌, ◌++◌, length, map, Option, None, Some, All}
 use Rattle.packing_laws.specs.Instances.{InstanceValue, IsAmong, item_at}
 use Rattle.packing_laws.specs.Packings.{cost_at}
 use Rattle.flow_graph.specs.declared.parts.ArcKind.{ArcKind}
 use Rattle.flow_graph.specs.declared.parts.ArcKind.TheVariants.{Bin, Loss, Piece}
 use Rattle.flow_graph.specs.Arcs.{TypeValue, flow_type, numbered}
-use Rattle.flow_graph.specs.Chords.{range_at}
+use Rattle.flow_graph.specs.Ends.{comes_in, goes_out}
 use Rattle.flow_model.specs.declared.flows.FlowRow.{FlowRow}
 use Rattle.flow_model.specs.declared.flows.FlowRow.TheVariants.{Node, Demand, Bound}
-use Rattle.flow_model.specs.Boxes.{root_ranges}
-
--- the arc goes out of node v of type t; a bin arc goes out of the target of its type
-abbrev pub goes_out : List TypeValue → ℕ → ℕ → ArcKind → Bool
-goes_out g t v (Bin s) = (s == t) && ((flow_type g s).nodes == v)
-goes_out g t v (Loss s tail head) = (s == t) && (tail == v)
-goes_out g t v (Piece s tail head item form) = (s == t) && (tail == v)
-
--- the arc comes into node v of type t; a bin arc comes into the source of its type
-abbrev pub comes_in : ℕ → ℕ → ArcKind → Bool
-comes_in t v (Bin s) = (s == t) && (1 == v)
-comes_in t v (Loss s tail head) = (s == t) && (head == v)
-comes_in t v (Piece s tail head item form) = (s == t) && (head == v)
+use Rattle.flow_model.specs.Boxes.{InBox, IsInRangeOf, root_ranges}
 
 -- the arc carries item i
 abbrev pub carries : ℕ → ArcKind → Bool
@@ -52,24 +40,30 @@ flow_cost I g values = weigh_arcs (arc_cost I) (numbered g) values
 abbrev pub IsConserved : List TypeValue → List ℕ → ℕ → ℕ → Type 0
 IsConserved g values t v = total_of (comes_in t v) g values ≡ total_of (goes_out g t v) g values
 
+-- what comes into each node goes out of it
+abbrev pub AreConserved : List TypeValue → List ℕ → Type 0
+AreConserved g values = (t v : ℕ) → IsAmong t (length g) → IsAmong v (flow_type g t).nodes → IsConserved g values t v
+
 -- the arcs of item i carry at least its demand
 abbrev pub IsServed : InstanceValue → List TypeValue → List ℕ → ℕ → Type 0
 IsServed I g values i = (item_at I i).demand ≤ total_of (carries i) g values
 
--- the number is in the range
-abbrev pub IsInRange : ℕ × ℕ → ℕ → Type 0
-IsInRange range x = (range.0 ≤ x) × (x ≤ range.1)
-
 -- the value of arc a is in its range of the root box
 abbrev pub IsBounded : InstanceValue → List TypeValue → List ℕ → ℕ → Type 0
-IsBounded I g values a = IsInRange (range_at (root_ranges I g) a) (slice_index values (a - 1))
+IsBounded I g values a = IsInRangeOf values (root_ranges I g) a
 
 -- a flow: a whole number for each arc, within the root box, conserved at each node, that serves each item
 pub record IsFlow (I : InstanceValue) (g : List TypeValue) (values : List ℕ) : Type 0 where
   pub size : length values ≡ length (numbered g)
-  pub nodes : (t v : ℕ) → IsAmong t (length g) → IsAmong v (flow_type g t).nodes → IsConserved g values t v
+  pub nodes : AreConserved g values
   pub demands : (i : ℕ) → IsAmong i (length I.items) → IsServed I g values i
   pub bounds : (a : ℕ) → IsAmong a (length (numbered g)) → IsBounded I g values a
+
+-- the root box: a range for each arc, none of them empty, and each flow lies in it
+pub record FlowsLieInRoot : Type 0 where
+  pub size : (I : InstanceValue) (g : List TypeValue) → length (root_ranges I g) ≡ length (numbered g)
+  pub order : (I : InstanceValue) (g : List TypeValue) → All (λ r. r.0 ≤ r.1) (root_ranges I g)
+  pub flows : (I : InstanceValue) (g : List TypeValue) (values : List ℕ) → IsFlow I g values → InBox values (root_ranges I g)
 
 -- the numbers from 1 to n
 abbrev pub up_to : ℕ → List ℕ

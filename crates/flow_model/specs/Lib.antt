@@ -1,8 +1,10 @@
-pub mod Programs
 pub mod Boxes
 pub mod Flows
 pub mod Models
 pub mod Packed
-pub mod Places
+pub mod Prices
+pub mod Programs
+pub mod Sums
 pub mod Tallies
 pub mod Worked
+pub mod inner

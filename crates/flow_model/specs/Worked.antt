@@ -17,6 +17,7 @@ three_of_one = record {
   dims = 1;
   types = record { cap = 2 ∷ []; cost = 3; limit = None } ∷ [];
   items = record { demand = 3; forms = (1 ∷ []) ∷ [] } ∷ [];
+  caps = [];
 }
 
 -- the arcs of a bin that holds at most two
@@ -29,7 +30,7 @@ leaves row = record { row = row; value = negsuc 0 }
 abbrev enters : ℕ → Entry
 enters row = record { row = row; value = pos 1 }
 
-pub record Rows : Type 0 where
+pub record Examples : Type 0 where
   pub type_is : IsFlowType up_to_two
   pub graph : GraphOf three_of_one its_graph
   pub box : root_ranges three_of_one its_graph ≡ replicate 5 (0, 3)

@@ -4,9 +4,9 @@ ghost use Rattle.std.specs.Prelude.{◌≡◌, IfOk, length};
 ghost use Rattle.packing_laws.specs.Instances.{units_of};
 ghost use Rattle.flow_graph.specs.Faithful.{GraphOf};
 ghost use Rattle.flow_model.specs.Boxes.{limited, root_ranges, upper_of};
-ghost use Rattle.flow_model.specs.Places.{NamesType};
+ghost use Rattle.flow_model.specs.inner.Known.{NamesType};
 
-use crate::known::graph_known;
+use crate::known;
 use arc_num::Memory;
 use flow_graph::{ArcKind, FlowGraph};
 use packing_laws::Instance;
@@ -14,7 +14,7 @@ use std::alloc::Global;
 use std::marker::Model;
 
 /// A range for each arc, by number.
-#[derive(Debug, Drop)]
+#[derive(Clone, Debug, Drop)]
 pub struct FlowBox {
     ranges: Vec<(u32, u32)>,
 }
@@ -68,7 +68,7 @@ pub fn root_box(alloc: Global, instance: &Instance, graph: &FlowGraph) -> Result
     requires { GraphOf instance.now graph.now }
     ensures { IfOk result (λ ranges. ranges ≡ root_ranges instance.now graph.now) }
 {
-    graph_known(instance, graph);
+    known::graph(instance, graph);
     let row = graph.row();
     let units = instance.units();
     let mut ranges = Vec::with_capacity(alloc, row.len())?;

@@ -6,14 +6,16 @@ ghost use Rattle.flow_graph.specs.Arcs.{numbered, flow_type};
 ghost use Rattle.flow_graph.specs.Faithful.{GraphOf};
 ghost use Rattle.flow_model.specs.declared.flows.FlowRow.TheVariants.{Node, Demand, Bound};
 ghost use Rattle.flow_model.specs.Flows.{IsFlow, Keeps, FirstBroken, FirstBadRow, all_nodes, up_to};
-ghost use Rattle.flow_model.specs.Places.{GraphKnown};
-ghost use Rattle.flow_model.specs.Tallies.{IsTallyOf, IsFilled};
+ghost use Rattle.flow_model.specs.Tallies.{IsTallyOf};
+ghost use Rattle.flow_model.specs.inner.Known.{IsKnownGraph};
+ghost use Rattle.flow_model.specs.inner.Sums.{IsFilled};
 
 use crate::boxes::upper;
 use crate::flows::{Flow, FlowRow};
-use crate::known::{graph_known, places_known, sums_known};
+use crate::known;
 use crate::places::node_count;
 use crate::tallies::Tally;
+use arc_num::MAX_NUMBERED;
 use flow_graph::FlowGraph;
 use packing_laws::Instance;
 
@@ -31,10 +33,10 @@ pub fn first_bad(
     ensures none { IsNone result ↔ IsFlow instance.now graph.now flow.now.values }
     ensures tally { IsTallyOf graph.now tally.new }
 {
-    graph_known(instance, graph);
-    places_known(instance, graph, tally);
+    known::graph(instance, graph);
+    known::places(instance, graph, tally);
     tally.take_sums(graph.row(), flow.values.as_slice());
-    sums_known(instance, graph, flow, tally);
+    known::sums(instance, graph, flow, tally);
     if let Some(row) = bad_node(instance, graph, flow, tally) {
         return Some(row);
     }
@@ -57,7 +59,7 @@ pub fn is_flow(instance: &Instance, graph: &FlowGraph, flow: &Flow, tally: &mut 
 
 // The first node where what comes in is not what goes out.
 fn bad_node(instance: &Instance, graph: &FlowGraph, flow: &Flow, tally: &Tally) -> Option<FlowRow>
-    requires nodes { sum_by (λ x. x.nodes) graph.now ≤ 1000064 }
+    requires nodes { sum_by (λ x. x.nodes) graph.now ≤ MAX_NUMBERED }
     requires tally { IsTallyOf graph.now tally.now }
     requires sums { IsFilled instance.now graph.now flow.now.values tally.now }
     ensures { FirstBroken (Keeps instance.now graph.now flow.now.values) (map (λ node. Node node.0 node.1) (all_nodes graph.now)) result }
@@ -80,15 +82,15 @@ fn bad_node_of(
     t: u32,
 ) -> Option<FlowRow>
     requires of_type { IsAmong t (length graph.now) }
-    requires nodes { sum_by (λ x. x.nodes) graph.now ≤ 1000064 }
+    requires nodes { sum_by (λ x. x.nodes) graph.now ≤ MAX_NUMBERED }
     requires tally { IsTallyOf graph.now tally.now }
     requires sums { IsFilled instance.now graph.now flow.now.values tally.now }
     ensures { FirstBroken (Keeps instance.now graph.now flow.now.values) (map (λ v. Node t v) (up_to (flow_type graph.now t).nodes)) result }
 {
     let start = tally.start(t - 1);
     for index in 0..node_count(graph, t) {
-        let (comes, goes) = tally.node((start + index) as usize);
-        if comes != goes {
+        let (inflow, outflow) = tally.node((start + index) as usize);
+        if inflow != outflow {
             return Some(FlowRow::Node { t, node: index + 1 });
         }
     }
@@ -115,7 +117,7 @@ fn bad_demand(instance: &Instance, graph: &FlowGraph, flow: &Flow, tally: &Tally
 
 // The first arc whose value is out of its range.
 fn bad_bound(instance: &Instance, graph: &FlowGraph, flow: &Flow) -> Option<FlowRow>
-    requires known { GraphKnown instance.now graph.now }
+    requires known { IsKnownGraph instance.now graph.now }
     requires size { length flow.now.values ≡ length (numbered graph.now) }
     ensures { FirstBroken (Keeps instance.now graph.now flow.now.values) (map (λ a. Bound a) (up_to (length (numbered graph.now)))) result }
 {

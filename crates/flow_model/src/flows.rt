@@ -1,4 +1,4 @@
-use crate::listed::Listed;
+use arc_num::Listed;
 
 /// A whole number for each arc, by number. It need not keep any rule.
 #[derive(Clone, Debug, PartialEq, Eq, Drop)]

@@ -7,19 +7,22 @@ mod checks;
 mod flows;
 mod known;
 mod laws;
-mod listed;
 mod models;
 mod places;
 mod programs;
 mod tallies;
 #[cfg(test)]
 mod tests;
+mod three_units;
 
 pub use boxes::{FlowBox, root_box};
 pub use checks::{first_bad, is_flow};
 pub use flows::{Flow, FlowRow};
-pub use laws::{models_are_programs, packings_are_flows, rows_are_worked, solutions_are_flows};
-pub use listed::Listed;
+pub use laws::{
+    boxes_split, conserved_is_balanced, examples_come_out, flows_lie_in_root, models_are_programs,
+    packings_are_flows, prices_add_up, solutions_are_flows,
+};
 pub use models::program_of;
 pub use programs::{Column, Entry, Name, Program, Row, RowKind};
 pub use tallies::Tally;
+pub use three_units::{graph_of_two, three_of_one};

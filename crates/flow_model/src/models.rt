@@ -4,17 +4,18 @@ ghost use Rattle.std.specs.Prelude.{◌≡◌, ◌+◌, ◌<◌, ◌≤◌, ◌^
 ghost use Rattle.packing_laws.specs.Instances.{units_of};
 ghost use Rattle.flow_graph.specs.Faithful.{GraphOf};
 ghost use Rattle.flow_model.specs.Flows.{up_to, arc_cost};
-ghost use Rattle.flow_model.specs.Places.{AreStarts, IsArcOf, NamesType, GraphKnown};
+ghost use Rattle.flow_model.specs.Tallies.{AreStarts};
+ghost use Rattle.flow_model.specs.inner.Known.{IsArcOf, NamesType, IsKnownGraph};
+ghost use Rattle.flow_model.specs.Packed.{SolvesAsFlows, SolvesPackings};
 ghost use Rattle.flow_model.specs.Programs.{IsProgram};
 ghost use Rattle.flow_model.specs.Models.{node_name as node_name_of, item_name as item_name_of, arc_name as arc_name_of, node_row, item_row, model_rows, moves as moves_of, entries_of, item_place, arc_column, model_columns, program_of_model};
 
 use crate::boxes::upper;
-use crate::known::graph_known;
-use crate::laws::models_are_programs;
-use crate::listed::Listed;
+use crate::known;
+use crate::laws::{models_are_programs, packings_are_flows, solutions_are_flows};
 use crate::places::{node_count, node_place, node_starts};
 use crate::programs::{Column, Entry, Name, Program, Row, RowKind};
-use arc_num::{MAX_ITEMS, Memory, push_number};
+use arc_num::{Listed, MAX_ITEMS, MAX_NUMBERED, Memory, push_number};
 use flow_graph::{ArcKind, FlowGraph};
 use packing_laws::Instance;
 use std::alloc::Global;
@@ -24,10 +25,14 @@ pub fn program_of(alloc: Global, graph: &FlowGraph, instance: &Instance) -> Resu
     requires { GraphOf instance.now graph.now }
     ensures value { IfOk result (λ program. program ≡ program_of_model instance.now graph.now) }
     ensures lawful { IfOk result (λ program. IsProgram program) }
+    ensures flows { IfOk result (λ program. SolvesAsFlows program instance.now graph.now) }
+    ensures packings { IfOk result (λ program. SolvesPackings program instance.now graph.now) }
 {
     instance.known();
     graph.known();
     models_are_programs();
+    solutions_are_flows();
+    packings_are_flows();
     let rows = rows(alloc, graph, instance)?;
     let columns = columns(alloc, graph, instance)?;
     let objective = Vec::from_slice(alloc, b"COST")?;
@@ -85,7 +90,7 @@ fn columns(alloc: Global, graph: &FlowGraph, instance: &Instance) -> Result<Vec<
     requires { GraphOf instance.now graph.now }
     ensures { IfOk result (λ columns. columns.items ≡ model_columns instance.now graph.now) }
 {
-    graph_known(instance, graph);
+    known::graph(instance, graph);
     let starts = node_starts(alloc, graph)?;
     let units = instance.units();
     let row = graph.row();
@@ -109,7 +114,7 @@ fn column(
     kind: &ArcKind,
 ) -> Result<Column, Memory>
     requires starts { AreStarts graph.now starts.now }
-    requires nodes { sum_by (λ x. x.nodes) graph.now ≤ 1000064 }
+    requires nodes { sum_by (λ x. x.nodes) graph.now ≤ MAX_NUMBERED }
     requires units { units ≡ units_of instance.now }
     requires arc { IsArcOf MAX_ITEMS graph.now kind.now }
     requires bin_type { NamesType (length instance.now.types) kind.now }
@@ -182,7 +187,7 @@ fn entries(
     kind: &ArcKind,
 ) -> Result<Listed<Entry>, Memory>
     requires starts { AreStarts graph.now starts.now }
-    requires nodes { sum_by (λ x. x.nodes) graph.now ≤ 1000064 }
+    requires nodes { sum_by (λ x. x.nodes) graph.now ≤ MAX_NUMBERED }
     requires arc { IsArcOf MAX_ITEMS graph.now kind.now }
     ensures { IfOk result (λ entries. entries ≡ entries_of graph.now kind.now) }
 {

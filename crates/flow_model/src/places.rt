@@ -3,15 +3,15 @@
 ghost use Rattle.std.specs.Prelude.{◌≡◌, ◌+◌, ◌-◌, ◌<◌, ◌≤◌, ◌^◌, IfOk, length, sum_by, slice_index};
 ghost use Rattle.packing_laws.specs.Instances.{IsAmong};
 ghost use Rattle.flow_graph.specs.Arcs.{flow_type};
-ghost use Rattle.flow_model.specs.Places.{AreStarts};
+ghost use Rattle.flow_model.specs.Tallies.{AreStarts};
 
-use arc_num::Memory;
+use arc_num::{MAX_NUMBERED, Memory};
 use flow_graph::FlowGraph;
 use std::alloc::Global;
 
 /// How many nodes no type has, the first, the first two, and so on up to all types.
 pub(crate) fn node_starts(alloc: Global, graph: &FlowGraph) -> Result<Vec<u32>, Memory>
-    requires { sum_by (λ x. x.nodes) graph.now ≤ 1000064 }
+    requires { sum_by (λ x. x.nodes) graph.now ≤ MAX_NUMBERED }
     ensures { IfOk result (λ starts. AreStarts graph.now starts.items) }
 {
     let count = graph.type_count();

@@ -1,6 +1,6 @@
 //! Linear programs in whole numbers. Rows and columns are numbered from 1.
 
-use crate::listed::Listed;
+use arc_num::Listed;
 
 /// The name of a row, of a column or of the objective: bytes of a text.
 pub type Name = Listed<u8>;

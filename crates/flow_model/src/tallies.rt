@@ -3,13 +3,12 @@
 ghost use Rattle.std.specs.Prelude.{◌≡◌, [], ◌+◌, ◌*◌, ◌^◌, ◌<◌, ◌≤◌, ℕ, IfOk, All, length, sum_by, slice_index, take};
 ghost use Rattle.packing_laws.specs.Instances.{IsAmong};
 ghost use Rattle.flow_graph.specs.Arcs.{numbered};
-ghost use Rattle.flow_model.specs.Places.{AreStarts};
-ghost use Rattle.flow_model.specs.Tallies.{IsTallyOf, HasShapeOf, IsTypeIn, IsPlaced, IsRaised, AreBelow, Holds, tail_in, head_in, raised};
+ghost use Rattle.flow_model.specs.Tallies.{AreStarts, IsTallyOf};
+ghost use Rattle.flow_model.specs.inner.Sums.{HasShapeOf, IsTypeIn, IsPlaced, IsRaised, AreBelow, Holds, tail_in, head_in, raised};
 
-use crate::known::nodes_known;
 use crate::places::node_starts;
-use arc_num::{MAX_ITEMS, Memory};
-use flow_graph::{ArcKind, FlowGraph};
+use arc_num::{MAX_ITEMS, MAX_NUMBERED, Memory};
+use flow_graph::{ArcKind, FlowGraph, nodes_are_few};
 use std::alloc::Global;
 use std::marker::Model;
 
@@ -17,8 +16,8 @@ use std::marker::Model;
 #[derive(Debug, Drop)]
 pub struct Tally {
     starts: Vec<u32>,
-    comes: Vec<u128>,
-    goes: Vec<u128>,
+    inflow: Vec<u128>,
+    outflow: Vec<u128>,
     items: Vec<u128>,
 }
 
@@ -27,20 +26,21 @@ impl Model for Tally {
 
     ghost Value = { TallyValue };
 
-    ghost view = { λ t. record { starts = t.starts.items; comes = t.comes.items; goes = t.goes.items; items = t.items.items } };
+    ghost view = { λ t. record { starts = t.starts.items; inflow = t.inflow.items; outflow = t.outflow.items; items = t.items.items } };
 }
 
 impl Tally {
     pub fn new(alloc: Global, graph: &FlowGraph) -> Result<Tally, Memory>
         ensures { IfOk result (λ tally. IsTallyOf graph.now tally) }
     {
-        nodes_known(graph);
+        graph.known();
+        nodes_are_few();
         let starts = node_starts(alloc, graph)?;
         let nodes = starts[graph.type_count() as usize] as usize;
         Ok(Tally {
             starts,
-            comes: vec![in alloc; 0; nodes]?,
-            goes: vec![in alloc; 0; nodes]?,
+            inflow: vec![in alloc; 0; nodes]?,
+            outflow: vec![in alloc; 0; nodes]?,
             items: vec![in alloc; 0; MAX_ITEMS as usize]?,
         })
     }
@@ -55,11 +55,11 @@ impl Tally {
 
     /// What comes into the node at this place, from 0, and what goes out of it.
     pub(crate) fn node(&self, place: usize) -> (u128, u128)
-        requires comes { place < length self.now.comes }
-        requires goes { place < length self.now.goes }
-        ensures { result ≡ (slice_index self.now.comes place, slice_index self.now.goes place) }
+        requires inflow { place < length self.now.inflow }
+        requires outflow { place < length self.now.outflow }
+        ensures { result ≡ (slice_index self.now.inflow place, slice_index self.now.outflow place) }
     {
-        (self.comes[place], self.goes[place])
+        (self.inflow[place], self.outflow[place])
     }
 
     /// What is carried of the item at this place, from 0.
@@ -73,10 +73,10 @@ impl Tally {
     /// Takes the sums of these values, whatever they were before.
     pub(crate) fn take_sums(&mut self, row: &[ArcKind], values: &[u64])
         requires size { length values.now ≡ length row.now }
-        requires few { length row.now ≤ 1000064 }
-        requires placed { All (IsPlaced (length self.old.comes) self.old.starts) row.now }
-        requires nodes { length self.old.comes ≤ 1000064 }
-        requires goes { length self.old.goes ≡ length self.old.comes }
+        requires few { length row.now ≤ MAX_NUMBERED }
+        requires placed { All (IsPlaced (length self.old.inflow) self.old.starts) row.now }
+        requires nodes { length self.old.inflow ≤ MAX_NUMBERED }
+        requires outflow { length self.old.outflow ≡ length self.old.inflow }
         requires items { length self.old.items ≡ MAX_ITEMS }
         ensures shape { HasShapeOf self.old self.new }
         ensures sums { Holds row.now values.now self.new }
@@ -95,23 +95,23 @@ impl Tally {
         ensures below { AreBelow 0 self.new }
         ensures sums { Holds [] [] self.new }
     {
-        self.comes.fill(0);
-        self.goes.fill(0);
+        self.inflow.fill(0);
+        self.outflow.fill(0);
         self.items.fill(0);
     }
 
     // Adds what an arc carries to the sums.
     fn add(&mut self, kind: &ArcKind, value: u64)
-        requires placed { IsPlaced (length self.old.comes) self.old.starts kind.now }
-        requires goes { length self.old.goes ≡ length self.old.comes }
-        requires nodes { length self.old.comes ≤ 1000064 }
+        requires placed { IsPlaced (length self.old.inflow) self.old.starts kind.now }
+        requires outflow { length self.old.outflow ≡ length self.old.inflow }
+        requires nodes { length self.old.inflow ≤ MAX_NUMBERED }
         requires items { length self.old.items ≡ MAX_ITEMS }
         requires below { AreBelow (2 ^ 127) self.old }
         ensures { IsRaised self.old self.new kind.now value }
     {
         let (tail, head) = ends(self.starts.as_slice(), kind);
-        raise(self.goes.as_mut_slice(), tail, value);
-        raise(self.comes.as_mut_slice(), head, value);
+        raise(self.outflow.as_mut_slice(), tail, value);
+        raise(self.inflow.as_mut_slice(), head, value);
         if let ArcKind::Piece { item, .. } = *kind {
             raise(self.items.as_mut_slice(), item, value);
         }

@@ -1,71 +1,24 @@
-//! Values from worked rows.
+//! Values from examples that are worked by hand.
 
-ghost use Rattle.std.specs.Prelude.{◌≡◌, [], ◌∷◌, IfOk, IfSome};
-ghost use Rattle.flow_model.specs.Worked.{three_of_one, its_graph};
+ghost use Rattle.std.specs.Prelude.{◌≡◌, IfOk};
 
 use crate::{
-    Column, Entry, Flow, FlowRow, Listed, Program, Row, RowKind, Tally, first_bad, is_flow,
-    models_are_programs, packings_are_flows, program_of, root_box, rows_are_worked,
-    solutions_are_flows,
+    Column, Entry, Flow, FlowBox, FlowRow, Program, Row, RowKind, Tally, boxes_split,
+    conserved_is_balanced, examples_come_out, first_bad, flows_lie_in_root, graph_of_two, is_flow,
+    models_are_programs, packings_are_flows, prices_add_up, program_of, root_box,
+    solutions_are_flows, three_of_one,
 };
-use arc_num::Memory;
-use flow_graph::{FlowGraph, TypeArc};
-use packing_laws::{BinType, Instance, Item, Numbers, Vectors};
+use arc_num::{Listed, Memory};
 use std::alloc::Global;
 use std::test::Fail;
 
 fn needs_send<T: Send + Sync>(_value: &T) {}
 
-/// Three units of an item of weight 1, and bins of 2 for 3.
-fn three_of_one_item(alloc: Global) -> Result<Option<Instance>, Memory>
-    ensures { IfOk result (λ o. IfSome o (λ I. I ≡ three_of_one)) }
+/// A copy of a box is equal to it.
+fn copy_of(ranges: &FlowBox) -> Result<FlowBox, Memory>
+    ensures { IfOk result (λ copy. copy ≡ ranges.now) }
 {
-    let capacity = Numbers::new(vec![in alloc; 2]?);
-    let weight = Numbers::new(vec![in alloc; 1]?);
-    let bin_type = BinType {
-        cap: capacity,
-        cost: 3,
-        limit: None,
-    };
-    let item = Item {
-        demand: 3,
-        forms: Vectors::new(vec![in alloc; weight]?),
-    };
-    Ok(Instance::new(1, vec![in alloc; bin_type]?, vec![in alloc; item]?))
-}
-
-/// The arcs of a bin that holds at most two units.
-fn graph_of_two(alloc: Global) -> Result<FlowGraph, Memory>
-    ensures { IfOk result (λ graph. graph ≡ its_graph) }
-{
-    let mut graph = FlowGraph::new(alloc);
-    rows_are_worked();
-    let first = TypeArc {
-        tail: 1,
-        head: 2,
-        item: 1,
-        form: 1,
-    };
-    let skip = TypeArc {
-        tail: 1,
-        head: 3,
-        item: 0,
-        form: 0,
-    };
-    let loss = TypeArc {
-        tail: 2,
-        head: 3,
-        item: 0,
-        form: 0,
-    };
-    let second = TypeArc {
-        tail: 2,
-        head: 3,
-        item: 1,
-        form: 1,
-    };
-    graph.add_type(3, &[first, skip, loss, second])?;
-    Ok(graph)
+    Ok(ranges.clone()?)
 }
 
 fn flow_of(alloc: Global, values: &[u64]) -> Result<Flow, Memory>
@@ -79,22 +32,26 @@ fn flow_of(alloc: Global, values: &[u64]) -> Result<Flow, Memory>
 #[test]
 fn the_root_box_has_a_range_for_each_arc(rt: HostRuntime) -> Result<(), Fail> {
     let alloc = rt.alloc();
-    let Some(instance) = three_of_one_item(alloc)? else {
+    let Some(instance) = three_of_one(alloc)? else {
         return Err("the numbers are those of an instance".into());
     };
     let graph = graph_of_two(alloc)?;
-    rows_are_worked();
+    examples_come_out();
     let mut ranges = root_box(alloc, &instance, &graph)?;
     for a in 1..6 {
         assert_eq!(rt; ranges.range(a), Some((0, 3)));
     }
     assert_eq!(rt; (ranges.range(0), ranges.range(6)), (None, None));
+    let whole = copy_of(&ranges)?;
     ranges.set_range(1, 1, 2);
     ranges.known();
+    boxes_split();
+    flows_lie_in_root();
     assert_eq!(rt;
         (ranges.range(1), ranges.range(2)),
         (Some((1, 2)), Some((0, 3)))
     );
+    assert_eq!(rt; whole.range(1), Some((0, 3)));
     needs_send(&ranges);
     Ok(())
 }
@@ -102,11 +59,11 @@ fn the_root_box_has_a_range_for_each_arc(rt: HostRuntime) -> Result<(), Fail> {
 #[test]
 fn the_first_violated_row_is_named(rt: HostRuntime) -> Result<(), Fail> {
     let alloc = rt.alloc();
-    let Some(instance) = three_of_one_item(alloc)? else {
+    let Some(instance) = three_of_one(alloc)? else {
         return Err("the numbers are those of an instance".into());
     };
     let graph = graph_of_two(alloc)?;
-    rows_are_worked();
+    examples_come_out();
     let mut tally = Tally::new(alloc, &graph)?;
     let two_bins = flow_of(alloc, &[2, 2, 0, 0, 2])?;
     let no_way_on = flow_of(alloc, &[2, 1, 0, 0, 1])?;
@@ -135,14 +92,16 @@ fn the_first_violated_row_is_named(rt: HostRuntime) -> Result<(), Fail> {
 #[test]
 fn the_program_has_a_row_for_each_node_and_item(rt: HostRuntime) -> Result<(), Fail> {
     let alloc = rt.alloc();
-    let Some(instance) = three_of_one_item(alloc)? else {
+    let Some(instance) = three_of_one(alloc)? else {
         return Err("the numbers are those of an instance".into());
     };
     let graph = graph_of_two(alloc)?;
-    rows_are_worked();
+    examples_come_out();
     solutions_are_flows();
     packings_are_flows();
     models_are_programs();
+    prices_add_up();
+    conserved_is_balanced();
     let program = program_of(alloc, &graph, &instance)?;
     assert_eq!(rt; program.objective.as_slice(), b"COST".as_slice());
     let mut names = Vec::new(alloc);

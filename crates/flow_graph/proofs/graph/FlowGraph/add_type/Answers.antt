@@ -1,12 +1,13 @@
 use Rattle.std.proofs.Common.{◌≡◌, ◌+◌, ◌<◌, ◌≤◌, length, sum_by, ap, ◌∙◌, rules}
+use Rattle.arc_num.specs.declared.TheConstants.{MAX_ARCS, MAX_TYPES}
 use Rattle.flow_graph.proofs.Numbers.{stored_push}
 use Rattle.flow_graph.specs.Arcs.{TypeValue}
 use Rattle.flow_graph.proofs.graph.FlowGraph.add_type.Goals as goal
 
 pub invariant_of-self-2 : goal.invariant_of-self-2
 invariant_of-self-2 c =
-    let few : length c.self.inside.types.items < 64 = search rules in
-    let room : sum_by (λ (x : TypeValue). length x.arcs) c.self.inside.types.items + length c.args.arcs.now ≤ 1000000 = search rules in
+    let few : length c.self.inside.types.items < MAX_TYPES = search rules in
+    let room : sum_by (λ (x : TypeValue). length x.arcs) c.self.inside.types.items + length c.args.arcs.now ≤ MAX_ARCS = search rules in
     let x : TypeValue = record { nodes = c.args.nodes; arcs = c.args.arcs.now } in
     let y : TypeValue = record { nodes = c.args.nodes; arcs = c.in_ok-arcs.arcs.items } in
     let same : y ≡ x = ap (λ arcs. record { nodes = c.args.nodes; arcs = arcs }) c.in_ok-arcs.ensures.items in

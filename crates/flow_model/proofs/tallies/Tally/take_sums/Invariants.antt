@@ -1,5 +1,5 @@
 use Rattle.std.proofs.Common.{◌≡◌, ◌*◌, ◌^◌, take}
-use Rattle.flow_model.specs.Tallies.{HasShapeOf, AreBelow, Holds}
+use Rattle.flow_model.specs.inner.Sums.{HasShapeOf, AreBelow, Holds}
 use Rattle.flow_model.proofs.tallies.Tally.take_sums.Given as goal
 
 abbrev pub invariant-loop-kind : goal.invariant-loop-kind

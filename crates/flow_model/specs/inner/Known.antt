@@ -1,6 +1,6 @@
 -- What each arc of a graph of an instance keeps.
-use Rattle.std.specs.Prelude.{◌≡◌, ℕ, ◌+◌, ◌<◌, ◌≤◌, List, All, length, sum_by, take, slice_index}
-use Rattle.arc_num.specs.declared.TheConstants.{MAX_ITEMS}
+use Rattle.std.specs.Prelude.{ℕ, ◌<◌, ◌≤◌, List, All, length, sum_by}
+use Rattle.arc_num.specs.declared.TheConstants.{MAX_ITEMS, MAX_NUMBERED}
 use Rattle.packing_laws.specs.Instances.{InstanceValue, IsAmong}
 use Rattle.flow_graph.specs.declared.parts.ArcKind.{ArcKind}
 use Rattle.flow_graph.specs.declared.parts.ArcKind.TheVariants.{Bin, Loss, Piece}
@@ -26,14 +26,9 @@ NamesType n (Loss t tail head) = Unit {0}
 NamesType n (Piece t tail head item form) = Unit {0}
 
 -- what a graph of an instance keeps: its arcs, and how many nodes there are
-pub record GraphKnown (I : InstanceValue) (g : List TypeValue) : Type 0 where
+pub record IsKnownGraph (I : InstanceValue) (g : List TypeValue) : Type 0 where
   pub arcs : All (IsArcOf MAX_ITEMS g) (numbered g)
   pub types : All (NamesType (length I.types)) (numbered g)
   pub sources : All (λ x. 1 ≤ x.nodes) g
-  pub nodes : sum_by (λ x. x.nodes) g ≤ 1000064
-  pub row : length (numbered g) ≤ 1000064
-
--- for each number of types from 0 on, how many nodes the first of them have
-pub record AreStarts (g : List TypeValue) (starts : List ℕ) : Type 0 where
-  pub size : length starts ≡ length g + 1
-  pub each : (k : ℕ) → k ≤ length g → slice_index starts k ≡ sum_by (λ x. x.nodes) (take k g)
+  pub nodes : sum_by (λ x. x.nodes) g ≤ MAX_NUMBERED
+  pub row : length (numbered g) ≤ MAX_NUMBERED

@@ -1,6 +1,6 @@
 use Rattle.std.proofs.Common.{refl}
 use Rattle.flow_graph.proofs.Examples.{two_nodes, one_node, no_items}
-use Rattle.flow_graph.proofs.laws.rows_are_worked.Goals as goal
+use Rattle.flow_graph.proofs.laws.examples_come_out.Goals as goal
 
 pub returns : goal.returns
 returns c = record {

@@ -1,6 +1,6 @@
 use Rattle.std.proofs.Common.{refl}
 use Rattle.flow_model.proofs.Examples.{type_is, graph_of}
-use Rattle.flow_model.proofs.laws.rows_are_worked.Goals as goal
+use Rattle.flow_model.proofs.laws.examples_come_out.Goals as goal
 
 pub returns : goal.returns
 returns c = record {

@@ -1,5 +1,0 @@
-use Rattle.flow_model.proofs.NodePlaces.{all_placed}
-use Rattle.flow_model.proofs.known.places_known.Goals as goal
-
-pub returns : goal.returns
-returns c = all_placed c.args.instance.now c.args.graph.now c.args.tally.now c.graph_known.ensures c.requires.tally
