@@ -34,7 +34,7 @@ column_names_of columns = map (λ column. column.name) columns
 
 -- these columns are read, and more may follow
 abbrev pub columns_read : List ℕ → List Row → List ReadColumn → Reading
-columns_read objective rows columns = record { stage = Columns; whole = true; objective = Some objective; rows = map bare rows; columns = columns }
+columns_read objective rows columns = record { stage = Columns; integers_open = true; objective = Some objective; rows = map bare rows; columns = columns }
 
 -- what is known of the objective and the rows
 pub record AreKnown (objective : List ℕ) (rows : List Row) : Type 0 where

@@ -6,7 +6,7 @@ pub mod Rows
 pub mod Changes
 pub mod Splits
 pub mod Places
-pub mod Marks
+pub mod LastColumns
 pub mod Twice
 pub mod Orders
 pub mod WorkedProgram
@@ -14,3 +14,11 @@ pub mod LinesRead
 pub mod Columns
 pub mod Sides
 pub mod Written
+pub mod Steps
+pub mod Sound
+pub mod Lawful
+pub mod Follow
+pub mod GivenNames
+pub mod GivenValues
+pub mod GivenSides
+pub mod GivenWhole

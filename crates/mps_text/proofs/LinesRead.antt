@@ -3,7 +3,7 @@ use Rattle.std.proofs.Common.{◌≡◌, ℕ, ◌+◌, ◌≤◌, List, length}
 use Rattle.mps_text.specs.declared.reader.Reader.{Reader}
 use Rattle.mps_text.specs.Lines.{lines_of}
 use Rattle.mps_text.specs.Meaning.{first_reading, lines_read}
-use Rattle.mps_text.specs.Readers.{reading_of, IsKept}
+use Rattle.mps_text.specs.inner.Readers.{reading_of, IsKept}
 
 -- the reader stands before the line with this number, with this rest of the text before it
 pub record IsReadUpTo (text : List ℕ) (r : Reader) (number : ℕ) (rest : List ℕ) : Type 0 where

@@ -57,7 +57,7 @@ place_at names k d apart lt =
     let first = position_or_len_is (bytes_eq (get_or names k d)) names k d (omega arith) (λ j below. differ (get_or names k d) (get_or names j d) (λ e. apart j k d below lt (sym e))) (λ h. same (get_or names k d)) in
     found (bytes_eq (get_or names k d)) names k first lt
 
-seam : {A : Type 0} (xs : List A) (y : A) (ys : List A) (d : A) → get_or (xs ++ y ∷ ys) (length xs) d ≡ y
+pub seam : {A : Type 0} (xs : List A) (y : A) (ys : List A) (d : A) → get_or (xs ++ y ∷ ys) (length xs) d ≡ y
 seam [] y ys d = refl
 seam (x ∷ xs) y ys d = seam xs y ys d
 

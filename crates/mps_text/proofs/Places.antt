@@ -16,7 +16,7 @@ place_map p f xs =
     ap (λ (n : ℕ). cond (nat_lt n (length (map f xs))) (Some n) None) (len_map p f xs)
     ∙ ap (λ (n : ℕ). cond (nat_lt (position_or_len (λ x. p (f x)) xs) n) (Some (position_or_len (λ x. p (f x)) xs)) None) (length-map xs f)
 
-none_passes : {X : Type 0} (p : X → Bool) (xs : List X) → length xs ≡ position_or_len p xs → list_any p xs ≡ false
+pub none_passes : {X : Type 0} (p : X → Bool) (xs : List X) → length xs ≡ position_or_len p xs → list_any p xs ≡ false
 none_passes p [] h = refl
 none_passes {X} p (x ∷ xs) h = by (p x) refl (none_passes p xs)
   where

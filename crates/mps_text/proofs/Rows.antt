@@ -25,7 +25,7 @@ names_of rows = map (λ row. row.name) rows
 
 -- these rows are read
 abbrev pub rows_read : List ℕ → List ReadRow → Reading
-rows_read objective rows = record { stage = Rows; whole = false; objective = Some objective; rows = rows; columns = [] }
+rows_read objective rows = record { stage = Rows; integers_open = false; objective = Some objective; rows = rows; columns = [] }
 
 row_judged : (r : Reading) (k : RowKind) (name : List ℕ) → is_new_name r name ≡ true → rows_line r (kind_letter k ∷ name ∷ []) ≡ Ok (with_row r k name)
 row_judged r Equal name h = ap (λ (z : Bool). owes z cause.Name (Ok (with_row r Equal name))) h

@@ -31,7 +31,7 @@ sided row = record { name = row.name; kind = row.kind; right = unless_zero (is_z
 
 -- right sides may follow
 abbrev pub rights_read : List ℕ → List ReadColumn → List ReadRow → Reading
-rights_read objective columns rows = record { stage = Rights; whole = false; objective = Some objective; rows = rows; columns = columns }
+rights_read objective columns rows = record { stage = Rights; integers_open = false; objective = Some objective; rows = rows; columns = columns }
 
 -- the names of the rows, with one of them in the middle
 names_around : (before : List ReadRow) (row : Row) (rows : List Row) → row_names (before ++ bare row ∷ map bare rows) ≡ row_names before ++ row.name ∷ names_of rows
@@ -84,7 +84,7 @@ closed c = bounded c (c.lower == c.upper) (c.lower == 0)
 
 -- bounds may follow
 abbrev pub limits_read : List ℕ → List ReadRow → List ReadColumn → Reading
-limits_read objective rows columns = record { stage = Limits; whole = false; objective = Some objective; rows = rows; columns = columns }
+limits_read objective rows columns = record { stage = Limits; integers_open = false; objective = Some objective; rows = rows; columns = columns }
 
 given_names : (columns : List Column) → column_names (map given columns) ≡ column_names_of columns
 given_names [] = refl

@@ -10,7 +10,7 @@ use Rattle.mps_text.specs.declared.parts.ReadRow.{ReadRow}
 use Rattle.mps_text.specs.declared.parts.ReadColumn.{ReadColumn}
 use Rattle.mps_text.specs.Meaning.{Reading, row_names, place_of, is_name, with_right, right_line, gives, value_in, each_in, change_at, change_each, with_value, with_values, target_in, columns_with, column_line}
 use Rattle.mps_text.specs.declared.reader.Reader.{Reader}
-use Rattle.mps_text.specs.Readers.{reading_of, KeepsAll, KeepsColumns, Judges, Finds, opened}
+use Rattle.mps_text.specs.inner.Readers.{reading_of, KeepsAll, KeepsColumns, Judges, Finds, opened}
 
 set_there : {A : Type 0} (xs : List A) (i : ℕ) (x y : A) → slice_get xs i ≡ Some x → slice_get (set xs i y) i ≡ Some y
 set_there [] i x y h = absurd (cc)
@@ -48,12 +48,12 @@ values_both i columns one t u v w h =
     change_both (with_value t v) (with_values (u ∷ []) (w ∷ [])) i columns one h ∙ ap (λ (f : ReadColumn → Option ReadColumn). change_at i f one) second
 
 column_reads : (r : Reading) (name : List ℕ) (rows values : List (List ℕ)) (columns : List ReadColumn) (targets : List ℕ) (numbers : List ℤ)
-    → columns_with name r.columns ≡ Some columns → r.whole ≡ true → each_in (target_in r) rows ≡ Some targets → each_in value_in values ≡ Some numbers
+    → columns_with name r.columns ≡ Some columns → r.integers_open ≡ true → each_in (target_in r) rows ≡ Some targets → each_in value_in values ≡ Some numbers
     → column_line r name rows values ≡ gives (change_at (length columns - 1) (with_values targets numbers) columns) cause.Twice (λ changed. Ok (record r { columns = changed }))
 column_reads r name rows values columns targets numbers with whole target number = rw (with, whole, target, number) refl
 
 pub two_judged : (r after : Reading) (name : List ℕ) (rows values : List (List ℕ)) (columns one two : List ReadColumn) (t u : ℕ) (v w : ℤ) (result : Result (Unit {0}) LineFault)
-    → columns_with name r.columns ≡ Some columns → r.whole ≡ true → each_in (target_in r) rows ≡ Some (t ∷ u ∷ []) → each_in value_in values ≡ Some (v ∷ w ∷ [])
+    → columns_with name r.columns ≡ Some columns → r.integers_open ≡ true → each_in (target_in r) rows ≡ Some (t ∷ u ∷ []) → each_in value_in values ≡ Some (v ∷ w ∷ [])
     → change_at (length columns - 1) (with_value t v) columns ≡ Some one → length one ≡ length columns
     → Finds (opened result two) (change_at (length one - 1) (with_value u w) one) cause.Twice → after ≡ record r { columns = two } → Judges result (column_line r name rows values) after
 two_judged r after name rows values columns one two t u v w result with whole target number first size second same =
@@ -72,7 +72,7 @@ two_judged r after name rows values columns one two t u v w result with whole ta
 
 -- what is read, where all but the columns is kept
 pub keeps_reading : (old new : Reader) → KeepsAll old new → reading_of new ≡ record (reading_of old) { columns = new.columns.items }
-keeps_reading old new h = (λ i. record { stage = h.stage i; whole = h.whole i; objective = h.objective i; rows = h.rows i; columns = new.columns.items })
+keeps_reading old new h = (λ i. record { stage = h.stage i; integers_open = h.integers_open i; objective = h.objective i; rows = h.rows i; columns = new.columns.items })
 
 no_more_rows : (o : Option (List ReadRow)) → option_and_then (change_each with_right [] []) o ≡ o
 no_more_rows None = refl
@@ -102,4 +102,4 @@ two_rights_judged r after name rows values one two p q v w result named place nu
 
 -- what is read, where all but the rows is kept
 pub keeps_columns_reading : (old new : Reader) → KeepsColumns old new → reading_of new ≡ record (reading_of old) { rows = new.rows.items }
-keeps_columns_reading old new h = (λ i. record { stage = h.stage i; whole = h.whole i; objective = h.objective i; rows = new.rows.items; columns = h.columns i })
+keeps_columns_reading old new h = (λ i. record { stage = h.stage i; integers_open = h.integers_open i; objective = h.objective i; rows = new.rows.items; columns = h.columns i })

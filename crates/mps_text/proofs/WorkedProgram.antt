@@ -27,7 +27,7 @@ not_so : (b : Bool) → not b ≡ true → b ≡ true → ⊥
 not_so true x y = absurd (cc)
 not_so false x y = absurd (cc)
 
-name_sound : (name : List ℕ) → is_name name ≡ true → IsName name
+pub name_sound : (name : List ℕ) → is_name name ≡ true → IsName name
 name_sound name h =
     let parts = both (nat_le 1 (length name) && nat_le (length name) 255) (list_all is_visible name && not (bytes_eq name marker_word)) h in
     let others = both (list_all is_visible name) (not (bytes_eq name marker_word)) parts.1 in
@@ -37,10 +37,10 @@ name_sound name h =
       other = (λ e. not_so (bytes_eq name marker_word) others.1 (ap (λ z. bytes_eq z marker_word) e ∙ same marker_word));
     }
 
-apart_none : AreDistinct []
+pub apart_none : AreDistinct []
 apart_none i j d lt small = absurd (omega arith)
 
-apart_cons : (x : List ℕ) (xs : List (List ℕ)) → place_of x xs ≡ None → AreDistinct xs → AreDistinct (x ∷ xs)
+pub apart_cons : (x : List ℕ) (xs : List (List ℕ)) → place_of x xs ≡ None → AreDistinct xs → AreDistinct (x ∷ xs)
 apart_cons x xs none rest zero zero d lt small = absurd (omega arith)
 apart_cons x xs none rest zero (suc j) d lt small = (λ e.
     let fails = fails_before_first (bytes_eq x) xs j d (let n = place_none (bytes_eq x) xs none in omega arith) in
@@ -54,7 +54,7 @@ abbrev all_new : List (List ℕ) → Bool
 all_new [] = true
 all_new (x ∷ xs) = is_none (place_of x xs) && all_new xs
 
-no_place : (o : Option ℕ) → is_none o ≡ true → o ≡ None
+pub no_place : (o : Option ℕ) → is_none o ≡ true → o ≡ None
 no_place None h = refl
 no_place (Some k) h = absurd (cc)
 
@@ -64,10 +64,10 @@ apart_all (x ∷ xs) h =
     let parts = both (is_none (place_of x xs)) (all_new xs) h in
     apart_cons x xs (no_place (place_of x xs) parts.0) (apart_all xs parts.1)
 
-rise_none : AllPairs {X = Entry} (λ d e. d.row < e.row) []
+pub rise_none : AllPairs {X = Entry} (λ d e. d.row < e.row) []
 rise_none i j d lt small = absurd (omega arith)
 
-rise_cons : (x : Entry) (xs : List Entry) → AllByRecursion (λ e. x.row < e.row) xs → AllPairs (λ d e. d.row < e.row) xs → AllPairs (λ d e. d.row < e.row) (x ∷ xs)
+pub rise_cons : (x : Entry) (xs : List Entry) → AllByRecursion (λ e. x.row < e.row) xs → AllPairs (λ d e. d.row < e.row) xs → AllPairs (λ d e. d.row < e.row) (x ∷ xs)
 rise_cons x xs above rest zero zero d lt small = absurd (omega arith)
 rise_cons x xs above rest zero (suc j) d lt small = All-from_recursion (λ e. x.row < e.row) xs above j d (omega arith)
 rise_cons x xs above rest (suc i) zero d lt small = absurd (omega arith)

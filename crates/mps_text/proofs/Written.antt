@@ -108,7 +108,7 @@ all_bounded n (c ∷ columns) h =
 
 -- at the end
 abbrev ended : Program → Reading
-ended p = record { stage = Ended; whole = false; objective = Some p.objective; rows = map sided p.rows; columns = map closed p.columns }
+ended p = record { stage = Ended; integers_open = false; objective = Some p.objective; rows = map sided p.rows; columns = map closed p.columns }
 
 abbrev named : Reading
 named = record first_reading { stage = Named }
@@ -127,13 +127,13 @@ rows_part p h =
     leads_on named begun all (codes "ROWS" ∷ []) (spaced (codes "N" ∷ p.objective ∷ []) ∷ map row_line p.rows) head
     (leads_on begun there all (spaced (codes "N" ∷ p.objective ∷ []) ∷ []) (map row_line p.rows) line rows)
 
-columns_part : (p : Program) → IsProgram p → Leads (rows_read p.objective (map bare p.rows)) (columns_section p) (record (columns_read p.objective p.rows (map given p.columns)) { whole = false })
+columns_part : (p : Program) → IsProgram p → Leads (rows_read p.objective (map bare p.rows)) (columns_section p) (record (columns_read p.objective p.rows (map given p.columns)) { integers_open = false })
 columns_part p h =
     let before = rows_read p.objective (map bare p.rows) in
-    let begun : Reading = record (columns_read p.objective p.rows []) { whole = false } in
+    let begun : Reading = record (columns_read p.objective p.rows []) { integers_open = false } in
     let open_ = columns_read p.objective p.rows [] in
     let all = columns_read p.objective p.rows (map given p.columns) in
-    let shut : Reading = record all { whole = false } in
+    let shut : Reading = record all { integers_open = false } in
     let lines = flat_map (column_lines p) p.columns in
     let known : AreKnown p.objective p.rows = record { objective_named = h.objective; rows_named = recursion_from_All IsRow p.rows h.rows; apart = h.rows_apart } in
     let head : Leads before (codes "COLUMNS" ∷ []) begun = leads_line before begun (codes "COLUMNS") refl refl in
@@ -147,9 +147,9 @@ columns_part p h =
 tail_apart : (x : List ℕ) (xs : List (List ℕ)) → AllPairs (λ x y. x ≢ y) (x ∷ xs) → AllPairs (λ x y. x ≢ y) xs
 tail_apart x xs h = (λ i j d lt small. h (suc i) (suc j) d (omega arith) (omega arith))
 
-rights_part : (p : Program) → IsProgram p → Leads (record (columns_read p.objective p.rows (map given p.columns)) { whole = false }) (rights_section p) (rights_read p.objective (map given p.columns) (map sided p.rows))
+rights_part : (p : Program) → IsProgram p → Leads (record (columns_read p.objective p.rows (map given p.columns)) { integers_open = false }) (rights_section p) (rights_read p.objective (map given p.columns) (map sided p.rows))
 rights_part p h =
-    let before : Reading = record (columns_read p.objective p.rows (map given p.columns)) { whole = false } in
+    let before : Reading = record (columns_read p.objective p.rows (map given p.columns)) { integers_open = false } in
     let begun = rights_read p.objective (map given p.columns) (map bare p.rows) in
     let all = rights_read p.objective (map given p.columns) (map sided p.rows) in
     let head : Leads before (codes "RHS" ∷ []) begun = leads_line before begun (codes "RHS") refl refl in
@@ -168,7 +168,7 @@ bounds_part p h =
 whole_leads : (p : Program) → IsProgram p → Leads first_reading (mps_lines_of p) (ended p)
 whole_leads p h =
     let rows = rows_read p.objective (map bare p.rows) in
-    let columns : Reading = record (columns_read p.objective p.rows (map given p.columns)) { whole = false } in
+    let columns : Reading = record (columns_read p.objective p.rows (map given p.columns)) { integers_open = false } in
     let rights = rights_read p.objective (map given p.columns) (map sided p.rows) in
     let limits = limits_read p.objective (map sided p.rows) (map closed p.columns) in
     let end = codes "ENDATA" ∷ [] in

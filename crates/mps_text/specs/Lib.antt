@@ -1,7 +1,7 @@
 pub mod Written
 pub mod Lines
 pub mod Meaning
-pub mod Counts
-pub mod Readers
+pub mod inner
 pub mod Worked
+pub mod Given
 pub mod Laws

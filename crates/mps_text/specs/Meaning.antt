@@ -22,18 +22,18 @@ use Rattle.mps_text.specs.declared.parts.ReadColumn.{ReadColumn}
 use Rattle.mps_text.specs.Written.{is_zero}
 use Rattle.mps_text.specs.Lines.{lines_of, fields_of, is_skipped, is_indented}
 
--- what is read so far: the heading that was read last, whether whole columns may stand here, the name of the objective, the
+-- what is read so far: the heading that was read last, whether columns of whole numbers may stand here, the name of the objective, the
 -- rows and the columns
 pub record Reading : Type 0 where
   pub stage : Stage
-  pub whole : Bool
+  pub integers_open : Bool
   pub objective : Option (List ℕ)
   pub rows : List ReadRow
   pub columns : List ReadColumn
 
 -- before the first line
 abbrev pub first_reading : Reading
-first_reading = record { stage = Start; whole = false; objective = None; rows = []; columns = [] }
+first_reading = record { stage = Start; integers_open = false; objective = None; rows = []; columns = [] }
 
 -- what a line leaves: what is read up to its end, or the cause that it is at fault with
 abbrev pub Judged : Type 0
@@ -149,12 +149,12 @@ is_below (Some upper) value = nat_le value upper
 abbrev pub is_bounded : ReadColumn → Bool
 is_bounded column = is_some column.fixed || is_below column.upper (unwrap_or column.lower 0)
 
--- the heading follows the one before, the objective is there before the columns, whole columns are closed, and at the end all
+-- the heading follows the one before, the objective is there before the columns, columns of whole numbers are closed, and at the end all
 -- columns have bounds
 abbrev pub begins : Reading → Stage → Judged
 begins r stage =
     owes (follows r.stage stage && not (is_columns stage && is_none r.objective)) cause.Section
-    (owes (not r.whole) cause.Kind
+    (owes (not r.integers_open) cause.Kind
     (owes (not (is_ended stage) || list_all is_bounded r.columns) cause.Bound
     (Ok (record r { stage = stage }))))
 
@@ -194,9 +194,9 @@ rows_line r fields = Err cause.Fields
 
 -- Lines of the columns.
 
--- a mark opens whole columns or closes them, in turn
+-- a mark opens columns of whole numbers or closes them, in turn
 abbrev pub turn : Reading → List ℕ → Bool → Judged
-turn r name opens = owes (if opens then not r.whole else r.whole) cause.Kind (owes (is_name name) cause.Name (Ok (record r { whole = opens })))
+turn r name opens = owes (if opens then not r.integers_open else r.integers_open) cause.Kind (owes (is_name name) cause.Name (Ok (record r { integers_open = opens })))
 
 abbrev pub mark_line : Reading → List ℕ → List ℕ → Judged
 mark_line r name word =
@@ -242,7 +242,7 @@ columns_with name columns = columns_ending name columns (place_of name (column_n
 abbrev pub column_line : Reading → List ℕ → List (List ℕ) → List (List ℕ) → Judged
 column_line r name rows values =
     gives (columns_with name r.columns) cause.Name (λ columns.
-    owes r.whole cause.Real
+    owes r.integers_open cause.Real
     (gives (each_in (target_in r) rows) cause.Row (λ targets.
     gives (each_in value_in values) cause.Value (λ numbers.
     gives (change_at (length columns - 1) (with_values targets numbers) columns) cause.Twice (λ changed.

@@ -64,7 +64,7 @@ one_of_each value lower = record {
   columns = record { name = codes "X"; cost = pos 0; entries = entry 1 value ∷ []; lower = lower; upper = 7 } ∷ [];
 }
 
-pub record Rows : Type 0 where
+pub record Examples : Type 0 where
   -- the worked text, both ways
   pub written : mps_text_of three_units ≡ three_units_text
   pub read : mps_meaning three_units_text ≡ Ok three_units

@@ -3,17 +3,17 @@
 ghost use Rattle.std.specs.Prelude.{◌≡◌, ℕ, ◌+◌, ◌-◌, ◌<◌, ◌≤◌, ◌^◌, [], ◌∷◌, ◌++◌, length, None, OnOk, IfOk, Ok, Err};
 ghost use Rattle.mps_text.specs.declared.faults.MpsCause.TheVariants as cause;
 ghost use Rattle.mps_text.specs.Lines.{fields_of};
-ghost use Rattle.mps_text.specs.Counts.{fields_in};
+ghost use Rattle.mps_text.specs.inner.Counts.{fields_in};
 ghost use Rattle.mps_text.specs.Meaning.{place_of, column_names, new_column, value_in, each_in, change_at, with_cost, with_entry, with_value, target_in, turn, mark_line, columns_with, column_line, columns_line};
-ghost use Rattle.mps_text.specs.Readers.{reading_of, opened, both_of, IsKept, Judges, Finds, KeepsAll};
+ghost use Rattle.mps_text.specs.inner.Readers.{reading_of, opened, both_of, IsKept, Judges, Finds, KeepsAll};
 
 use crate::counts::{Pair, Pairs, pair_fields};
 use crate::faults::MpsCause;
-use crate::parts::{Entries, ReadColumn};
+use crate::parts::ReadColumn;
 use crate::reader::{LineFault, Reader};
 use crate::stages::Stage;
-use crate::values::{keeps_rules, value};
-use arc_num::Memory;
+use crate::values::{keeps_rules, two_numbers, value_of};
+use arc_num::{Listed, Memory};
 use flow_model::{Entry, Name};
 use std::alloc::Global;
 
@@ -87,13 +87,13 @@ impl<'a> Reader<'a> {
         ensures kept { OnOk result (IsKept self.new) }
         ensures grows { self.new.rows.items ≡ self.old.rows.items }
     {
-        if self.whole == opens {
+        if self.integers_open == opens {
             return Err(LineFault::Bad(MpsCause::Kind));
         }
         if !keeps_rules(name) {
             return Err(LineFault::Bad(MpsCause::Name));
         }
-        self.whole = opens;
+        self.integers_open = opens;
         Ok(())
     }
 
@@ -105,21 +105,12 @@ impl<'a> Reader<'a> {
         ensures kept { OnOk result (IsKept self.new) }
         ensures grows { self.new.rows.items ≡ self.old.rows.items }
     {
-        match self.open_column(alloc, name) {
-            Ok(()) => {}
-            Err(fault) => return Err(fault),
-        }
-        if !self.whole {
+        self.open_column(alloc, name)?;
+        if !self.integers_open {
             return Err(LineFault::Bad(MpsCause::Real));
         }
-        let target = match self.target_of(pair.row) {
-            Ok(target) => target,
-            Err(fault) => return Err(fault),
-        };
-        let number = match value_of(pair.value) {
-            Ok(number) => number,
-            Err(fault) => return Err(fault),
-        };
+        let target = self.target_of(pair.row)?;
+        let number = value_of(pair.value)?;
         self.put(target, number)
     }
 
@@ -137,11 +128,8 @@ impl<'a> Reader<'a> {
         ensures kept { OnOk result (IsKept self.new) }
         ensures grows { self.new.rows.items ≡ self.old.rows.items }
     {
-        match self.open_column(alloc, name) {
-            Ok(()) => {}
-            Err(fault) => return Err(fault),
-        }
-        if !self.whole {
+        self.open_column(alloc, name)?;
+        if !self.integers_open {
             return Err(LineFault::Bad(MpsCause::Real));
         }
         let (target, other_target) = match self.two_targets(first.row, second.row) {
@@ -179,10 +167,8 @@ impl<'a> Reader<'a> {
                 if !keeps_rules(name) {
                     return Err(LineFault::Bad(MpsCause::Name));
                 }
-                match self.add_column(alloc, name) {
-                    Ok(()) => Ok(()),
-                    Err(_) => Err(LineFault::Memory),
-                }
+                self.add_column(alloc, name)?;
+                Ok(())
             }
         }
     }
@@ -198,7 +184,7 @@ impl<'a> Reader<'a> {
         let column = ReadColumn {
             name: Name::new(Vec::from_slice(alloc, name)?),
             cost: None,
-            entries: Entries::new(alloc),
+            entries: Listed::empty(alloc),
             fixed: None,
             lower: None,
             upper: None,
@@ -282,40 +268,15 @@ impl<'a> Reader<'a> {
         ensures size { length self.new.columns.items ≡ length self.old.columns.items }
     {
         let count = self.columns.len();
-        if self.marks[place] == count {
+        if self.last_columns[place] == count {
             return Err(LineFault::Bad(MpsCause::Twice));
         }
         let entry = Entry {
             row: place as u32 + 1,
             value: number,
         };
-        match self.columns[count - 1].add(entry) {
-            Ok(()) => {
-                self.marks[place] = count;
-                Ok(())
-            }
-            Err(_) => Err(LineFault::Memory),
-        }
-    }
-}
-
-pub(crate) fn value_of(field: &[u8]) -> Result<i64, LineFault>
-    ensures { Finds result (value_in field.now) cause.Value }
-{
-    match value(field) {
-        Some(number) => Ok(number),
-        None => Err(LineFault::Bad(MpsCause::Value)),
-    }
-}
-
-pub(crate) fn two_numbers(first: &[u8], second: &[u8]) -> Result<(i64, i64), LineFault>
-    ensures { Finds (both_of result) (each_in value_in (first.now ∷ second.now ∷ [])) cause.Value }
-{
-    match value_of(first) {
-        Err(fault) => Err(fault),
-        Ok(one) => match value_of(second) {
-            Err(fault) => Err(fault),
-            Ok(two) => Ok((one, two)),
-        },
+        self.columns[count - 1].add(entry)?;
+        self.last_columns[place] = count;
+        Ok(())
     }
 }

@@ -2,7 +2,7 @@
 
 ghost use Rattle.std.specs.Prelude.{◌≡◌, ◌≢◌, [], ◌∷◌, length, None, MatchOption, IfSome};
 ghost use Rattle.mps_text.specs.Lines.{fields_of};
-ghost use Rattle.mps_text.specs.Counts.{fields_in, IsFirstPair};
+ghost use Rattle.mps_text.specs.inner.Counts.{fields_in, IsFirstPair};
 
 use crate::split::next_field;
 

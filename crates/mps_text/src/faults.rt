@@ -1,5 +1,6 @@
 //! What is wrong with a text that means no program.
 
+use arc_num::Memory;
 use std::fmt::Debug;
 use thiserror::Error;
 
@@ -39,4 +40,15 @@ pub enum MpsFault {
     Bad { line: u64, cause: MpsCause },
     #[error("out of memory")]
     Memory,
+}
+
+impl From<Memory> for MpsFault {
+    ghost use Rattle.std.specs.Prelude.{◌≡◌};
+    ghost use Rattle.mps_text.specs.declared.faults.MpsFault.TheVariants as fault;
+
+    ghost from_gives = { λ _ e. e ≡ fault.Memory };
+
+    fn from(_e: Memory) -> MpsFault {
+        MpsFault::Memory
+    }
 }

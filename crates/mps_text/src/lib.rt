@@ -17,7 +17,10 @@ mod values;
 mod write;
 
 pub use faults::{MpsCause, MpsFault};
-pub use laws::{rows_are_worked, three_units_keep_the_rules, written_is_read};
+pub use laws::{
+    examples_come_out, meanings_are_given, meanings_keep_the_rules, three_units_keep_the_rules,
+    written_is_read,
+};
 pub use read::read_mps;
 pub use write::write_mps;
 

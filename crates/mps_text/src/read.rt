@@ -3,33 +3,31 @@
 ghost use Rattle.std.specs.Prelude.{◌≡◌, ◌⊎◌, ℕ, ◌+◌, ◌<◌, ◌≤◌, ◌^◌, [], map, filter, not, length, unwrap_or, Ok, Err, OnOk, IfOk, MatchResult};
 ghost use Rattle.std.specs.List.Sorted.{IsSortedByKey, IsStableByKey};
 ghost use Rattle.std.specs.Ordering.{nat_cmp};
+ghost use Rattle.flow_model.specs.Programs.{IsProgram};
 ghost use Rattle.mps_text.specs.Lines.{lines_of, fields_of};
 ghost use Rattle.mps_text.specs.Meaning.{first_reading, section_line, line_of, lines_read, in_row_order, row_of, column_of, program_of, mps_meaning};
 ghost use Rattle.mps_text.specs.Written.{is_zero};
-ghost use Rattle.mps_text.specs.Readers.{reading_of, IsKept, Judges, Reads};
+ghost use Rattle.mps_text.specs.inner.Readers.{reading_of, IsKept, Judges, Reads};
 
 use crate::faults::{MpsCause, MpsFault};
-use crate::parts::{Entries, ReadColumn, ReadRow};
+use crate::parts::{ReadColumn, ReadRow};
 use crate::reader::{LineFault, Reader, is_ended};
 use crate::split::{indented, skipped, split_line};
 use crate::stages::Stage;
-use arc_num::Memory;
-use flow_model::{Column, Entry, Listed, Name, Program, Row};
+use arc_num::{Listed, Memory};
+use flow_model::{Column, Entry, Name, Program, Row};
 use std::alloc::Global;
 
 /// The program that a text means, or the first line at fault with its first cause.
 pub fn read_mps(alloc: Global, text: &[u8]) -> Result<Program, MpsFault>
     requires { length text.now < 2 ^ 32 }
-    ensures { MatchResult result (λ p. mps_meaning text.now ≡ Ok p) (λ e. (e ≡ MpsFault.Memory) ⊎ (mps_meaning text.now ≡ Err e)) }
+    ensures meaning { MatchResult result (λ p. mps_meaning text.now ≡ Ok p) (λ e. (e ≡ MpsFault.Memory) ⊎ (mps_meaning text.now ≡ Err e)) }
+    ensures lawful { IfOk result (λ p. IsProgram p) }
 {
     let mut reader = Reader::new(alloc);
-    match reader.read(alloc, text) {
-        Ok(()) => match reader.into_program(alloc) {
-            Ok(program) => Ok(program),
-            Err(_) => Err(MpsFault::Memory),
-        },
-        Err(fault) => Err(fault),
-    }
+    reader.read(alloc, text)?;
+    let program = reader.into_program(alloc)?;
+    Ok(program)
 }
 
 impl<'a> Reader<'a> {
@@ -45,13 +43,7 @@ impl<'a> Reader<'a> {
             let (line, behind) = split_line(rest);
             match self.line(alloc, line) {
                 Ok(()) => {}
-                Err(LineFault::Bad(cause)) => {
-                    return Err(MpsFault::Bad {
-                        line: number,
-                        cause,
-                    });
-                }
-                Err(LineFault::Memory) => return Err(MpsFault::Memory),
+                Err(fault) => return Err(fault.at(number)),
             }
             rest = behind;
             number += 1;
@@ -170,32 +162,30 @@ impl ReadColumn {
         Ok(Column {
             name: self.name,
             cost: self.cost.unwrap_or(0),
-            entries: Listed::new(self.entries.in_order()?),
+            entries: Listed::new(in_order(self.entries)?),
             lower,
             upper,
         })
     }
 }
 
-impl Entries {
-    /// The entries that are not 0, by their rows.
-    fn in_order(self) -> Result<Vec<Entry>, Memory>
-        ensures { IfOk result (λ v. v.items ≡ in_row_order (filter (λ e. not (is_zero e.value)) self)) }
-    {
-        let mut list = self.list;
-        drop_zeros(&mut list);
-        sort_by_row(&mut list)?;
-        Ok(list)
-    }
+/// The entries that are not 0, by their rows.
+fn in_order(entries: Listed<Entry>) -> Result<Vec<Entry>, Memory>
+    ensures { IfOk result (λ v. v.items ≡ in_row_order (filter (λ e. not (is_zero e.value)) entries)) }
+{
+    let mut list = entries.into_list();
+    drop_zeros(&mut list);
+    sort_by_row(&mut list)?;
+    Ok(list)
 }
 
 fn drop_zeros(list: &mut Vec<Entry>)
     ensures { list.new.items ≡ filter (λ e. not (is_zero e.value)) list.old.items }
 {
-    list.retain(|entry| is_filled(entry));
+    list.retain(|entry| is_nonzero(entry));
 }
 
-fn is_filled(entry: &Entry) -> bool
+fn is_nonzero(entry: &Entry) -> bool
     ensures { result ≡ not (is_zero entry.now.value) }
 {
     entry.value != 0

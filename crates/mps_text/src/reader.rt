@@ -4,13 +4,14 @@ ghost use Rattle.std.specs.Prelude.{◌≡◌, ℕ, ◌+◌, ◌<◌, ◌≤◌,
 ghost use Rattle.std.specs.List.{list_all};
 ghost use Rattle.mps_text.specs.Lines.{fields_of};
 ghost use Rattle.mps_text.specs.Meaning.{first_reading, follows, word_alone, stage_in, is_columns, is_ended, is_bounded, begins, heading, section_line, line_of, target_in};
-ghost use Rattle.mps_text.specs.Readers.{reading_of, IsKept, Judges};
+ghost use Rattle.mps_text.specs.inner.Readers.{reading_of, at_line, IsKept, Judges};
 
-use crate::faults::MpsCause;
+use crate::faults::{MpsCause, MpsFault};
 use crate::names::Names;
 use crate::parts::{ReadColumn, ReadRow};
 use crate::split::next_field;
 use crate::stages::Stage;
+use arc_num::Memory;
 use flow_model::Name;
 use std::alloc::Global;
 
@@ -21,16 +22,39 @@ pub(crate) enum LineFault {
     Memory,
 }
 
-/// What is read so far. The names are also kept by themselves, to be found fast; each row has a mark, the number of the
-/// last column that has a value in it.
+impl LineFault {
+    /// The fault of a text whose line with this number is at fault so.
+    pub(crate) fn at(self, line: u64) -> MpsFault
+        ensures { result ≡ at_line self line }
+    {
+        match self {
+            LineFault::Bad(cause) => MpsFault::Bad { line, cause },
+            LineFault::Memory => MpsFault::Memory,
+        }
+    }
+}
+
+impl From<Memory> for LineFault {
+    ghost use Rattle.std.specs.Prelude.{◌≡◌};
+    ghost use Rattle.mps_text.specs.declared.reader.LineFault.TheVariants as fault;
+
+    ghost from_gives = { λ _ e. e ≡ fault.Memory };
+
+    fn from(_e: Memory) -> LineFault {
+        LineFault::Memory
+    }
+}
+
+/// What is read so far. The names are also kept by themselves, to be found fast; each row has the number of the last
+/// column with a value in it, which tells at once whether the column that is read has one there.
 #[derive(Drop)]
 pub(crate) struct Reader<'a> {
     pub(crate) stage: Stage,
-    pub(crate) whole: bool,
+    pub(crate) integers_open: bool,
     pub(crate) objective: Option<Name>,
     pub(crate) row_names: Names<'a>,
     pub(crate) rows: Vec<ReadRow>,
-    pub(crate) marks: Vec<usize>,
+    pub(crate) last_columns: Vec<usize>,
     pub(crate) column_names: Names<'a>,
     pub(crate) columns: Vec<ReadColumn>,
 }
@@ -42,11 +66,11 @@ impl<'a> Reader<'a> {
     {
         Reader {
             stage: Stage::Start,
-            whole: false,
+            integers_open: false,
             objective: None,
             row_names: Names::new(alloc),
             rows: Vec::new(alloc),
-            marks: Vec::new(alloc),
+            last_columns: Vec::new(alloc),
             column_names: Names::new(alloc),
             columns: Vec::new(alloc),
         }
@@ -77,7 +101,7 @@ impl<'a> Reader<'a> {
         if is_columns(stage) && self.objective.is_none() {
             return Err(LineFault::Bad(MpsCause::Section));
         }
-        if self.whole {
+        if self.integers_open {
             return Err(LineFault::Bad(MpsCause::Kind));
         }
         if is_ended(stage) && !all_bounded(self.columns.as_slice()) {

@@ -3,7 +3,7 @@
 ghost use Rattle.std.specs.Prelude.{◌≡◌, ℕ, ◌+◌, ◌<◌, ◌≤◌, [], ◌∷◌, length, None, OnOk, Ok, Err};
 ghost use Rattle.mps_text.specs.Lines.{fields_of};
 ghost use Rattle.mps_text.specs.Meaning.{place_of, row_names, kind_in, target_in, is_new_name, with_row, objective_line, row_named, rows_line};
-ghost use Rattle.mps_text.specs.Readers.{reading_of, IsKept, Judges};
+ghost use Rattle.mps_text.specs.inner.Readers.{reading_of, IsKept, Judges};
 
 use crate::counts::two_fields;
 use crate::faults::MpsCause;
@@ -77,10 +77,8 @@ impl<'a> Reader<'a> {
         if !self.is_new(name) {
             return Err(LineFault::Bad(MpsCause::Name));
         }
-        match self.add_row(alloc, kind, name) {
-            Ok(()) => Ok(()),
-            Err(_) => Err(LineFault::Memory),
-        }
+        self.add_row(alloc, kind, name)?;
+        Ok(())
     }
 
     fn add_row(&mut self, alloc: Global, kind: RowKind, name: &'a [u8]) -> Result<(), Memory>
@@ -97,7 +95,7 @@ impl<'a> Reader<'a> {
             right: None,
         };
         self.row_names.add(name)?;
-        self.marks.push(0)?;
+        self.last_columns.push(0)?;
         self.rows.push(row)?;
         Ok(())
     }

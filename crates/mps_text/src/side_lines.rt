@@ -3,17 +3,16 @@
 ghost use Rattle.std.specs.Prelude.{◌≡◌, ℕ, ◌<◌, ◌≤◌, [], ◌∷◌, length, Some, None, OnOk, IfOk, Ok, Err, if◌then◌else◌};
 ghost use Rattle.mps_text.specs.declared.faults.MpsCause.TheVariants as cause;
 ghost use Rattle.mps_text.specs.Lines.{fields_of};
-ghost use Rattle.mps_text.specs.Counts.{fields_in};
+ghost use Rattle.mps_text.specs.inner.Counts.{fields_in};
 ghost use Rattle.mps_text.specs.Meaning.{place_of, row_names, column_names, value_in, bound_in, each_in, change_at, with_right, with_bound, right_line, rights_line, bound_kind_in, bound_line, bounds_line};
-ghost use Rattle.mps_text.specs.Readers.{reading_of, opened, both_of, IsKept, Judges, Finds, KeepsAll, KeepsColumns};
+ghost use Rattle.mps_text.specs.inner.Readers.{reading_of, opened, both_of, IsKept, Judges, Finds, KeepsAll, KeepsColumns};
 
-use crate::column_lines::{two_numbers, value_of};
 use crate::counts::{Four, Pair, Pairs, four_fields, pair_fields};
 use crate::faults::MpsCause;
 use crate::parts::ReadColumn;
 use crate::reader::{LineFault, Reader};
 use crate::stages::{BoundKind, Stage};
-use crate::values::{bound, keeps_rules};
+use crate::values::{bound, keeps_rules, two_numbers, value_of};
 
 impl<'a> Reader<'a> {
     /// A line of the right sides.
@@ -53,14 +52,8 @@ impl<'a> Reader<'a> {
         if !keeps_rules(set) {
             return Err(LineFault::Bad(MpsCause::Name));
         }
-        let place = match self.row_place(pair.row) {
-            Ok(place) => place,
-            Err(fault) => return Err(fault),
-        };
-        let number = match value_of(pair.value) {
-            Ok(number) => number,
-            Err(fault) => return Err(fault),
-        };
+        let place = self.row_place(pair.row)?;
+        let number = value_of(pair.value)?;
         self.put_right(place, number)
     }
 

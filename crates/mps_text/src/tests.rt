@@ -4,11 +4,11 @@ ghost use Rattle.std.specs.Prelude.{◌≡◌, ◌++◌, take, drop, OnOk, IfOk}
 ghost use Rattle.mps_text.specs.Worked.{three_units};
 
 use crate::{
-    MpsCause, MpsFault, read_mps, rows_are_worked, three_units_keep_the_rules, write_mps,
-    written_is_read,
+    MpsCause, MpsFault, examples_come_out, meanings_are_given, meanings_keep_the_rules, read_mps,
+    three_units_keep_the_rules, write_mps, written_is_read,
 };
-use arc_num::Memory;
-use flow_model::{Column, Entry, Listed, Program, Row, RowKind};
+use arc_num::{Listed, Memory};
+use flow_model::{Column, Entry, Program, Row, RowKind};
 use std::alloc::Global;
 use std::test::Fail;
 
@@ -121,26 +121,125 @@ fn the_worked_text_is_read(rt: HostRuntime) -> Result<(), Fail> {
     Ok(())
 }
 
+/// The lines up to the columns: an objective C, rows R and S, and the marker that opens columns of whole numbers.
+const UP_TO_COLUMNS: &[u8] = b"NAME\nROWS\n N C\n E R\n G S\nCOLUMNS\n M 'MARKER' 'INTORG'\n";
+
+/// A column X and the marker behind it.
+const ONE_COLUMN: &[u8] = b" X R 1\n M 'MARKER' 'INTEND'\n";
+
+/// The line at fault and its cause, where these texts stand one behind the other.
+fn fault_behind(
+    alloc: Global,
+    first: &[u8],
+    second: &[u8],
+    rest: &[u8],
+) -> Result<Option<(u64, MpsCause)>, Memory> {
+    let mut text = Vec::from_slice(alloc, first)?;
+    text.extend_from_slice(second)?;
+    text.extend_from_slice(rest)?;
+    Ok(fault(alloc, text.as_slice()))
+}
+
 #[test]
 fn each_cause_has_its_line(rt: HostRuntime) {
     let alloc = rt.alloc();
-    assert_eq!(rt; fault(alloc, b"NAME\n"), Some((2, MpsCause::Section)));
-    assert_eq!(rt;
-        fault(alloc, b"NAME\nROWS\n N\n"),
-        Some((3, MpsCause::Fields))
-    );
-    assert_eq!(rt;
-        fault(alloc, b"NAME\nROWS\n X C\n"),
-        Some((3, MpsCause::Kind))
-    );
-    assert_eq!(rt;
-        fault(alloc, b"NAME\nROWS\n N C\n E C\n"),
-        Some((4, MpsCause::Name))
-    );
-    assert_eq!(rt;
-        fault(alloc, b"NAME\nROWS\n N C\nCOLUMNS\n X C 1\n"),
-        Some((5, MpsCause::Real))
-    );
-    rows_are_worked();
+    let rows: [(&[u8], u64, MpsCause); 7] = [
+        (b"NAME\n", 2, MpsCause::Section),
+        (b"NAME\nROWS\n E R\nCOLUMNS\n", 4, MpsCause::Section),
+        (b"NAME\nROWS\n N\n", 3, MpsCause::Fields),
+        (b"NAME\nROWS\n X C\n", 3, MpsCause::Kind),
+        (b"NAME\nROWS\n N C\n E C\n", 4, MpsCause::Name),
+        (b"NAME\nROWS\n N C\nCOLUMNS\n X C 1\n", 5, MpsCause::Real),
+        (b"NAME\n* note\nROWS\n\n N C\n N D\n", 6, MpsCause::Kind),
+    ];
+    for (text, line, cause) in rows {
+        assert_eq!(rt; fault(alloc, text), Some((line, cause)));
+    }
+    examples_come_out();
     written_is_read();
+    meanings_keep_the_rules();
+    meanings_are_given();
+}
+
+#[test]
+fn each_cause_of_columns_has_its_line(rt: HostRuntime) -> Result<(), Fail> {
+    let alloc = rt.alloc();
+    let rows: [(&[u8], u64, MpsCause); 6] = [
+        (b" X Q 1\n", 8, MpsCause::Row),
+        (b" X R +1\n", 8, MpsCause::Value),
+        (b" X R 1 S 4611686018427387905\n", 8, MpsCause::Value),
+        (b" X R 1 R 2\n", 8, MpsCause::Twice),
+        (b" X R 0\n X R 1\n", 9, MpsCause::Twice),
+        (b" X R 1\n Y R 1\n X S 1\n", 10, MpsCause::Name),
+    ];
+    for (text, line, cause) in rows {
+        assert_eq!(rt;
+            fault_behind(alloc, UP_TO_COLUMNS, b"", text)?,
+            Some((line, cause))
+        );
+    }
+    Ok(())
+}
+
+#[test]
+fn each_cause_behind_columns_has_its_line(rt: HostRuntime) -> Result<(), Fail> {
+    let alloc = rt.alloc();
+    let rows: [(&[u8], u64, MpsCause); 8] = [
+        (b"RHS\n B C 1\n", 11, MpsCause::Row),
+        (b"RHS\n B R 1\n B R 2\n", 12, MpsCause::Twice),
+        (b"RHS\n B R x\n", 11, MpsCause::Value),
+        (b"BOUNDS\n UP B Y 1\n", 11, MpsCause::Column),
+        (b"BOUNDS\n UP B X -1\n", 11, MpsCause::Value),
+        (b"BOUNDS\n FX B X 1\n UP B X 1\n", 12, MpsCause::Twice),
+        (
+            b"BOUNDS\n UP B X 1\n LO B X 2\nENDATA\n",
+            13,
+            MpsCause::Bound,
+        ),
+        (b"ENDATA\n", 10, MpsCause::Bound),
+    ];
+    for (text, line, cause) in rows {
+        assert_eq!(rt;
+            fault_behind(alloc, UP_TO_COLUMNS, ONE_COLUMN, text)?,
+            Some((line, cause))
+        );
+    }
+    Ok(())
+}
+
+const EACH_FORM: &[u8] =
+    b"NAME a b\r\n* note\r\nROWS\r\n\tN\tC\r\n E R\r\n G S\r\nCOLUMNS\r\n M 'MARKER' 'INTORG'\r\n X S 1 C -2\r\n X R 8\r\n Y\tS\t3\tR\t0\r\n M 'MARKER' 'INTEND'\r\n \t\r\nRHS\r\n B R -4 S 5\r\nBOUNDS\r\n FX B X 6\r\n LO B Y 1\r\n UP B Y 7\r\nENDATA\r\n";
+
+fn bounded_column(
+    alloc: Global,
+    name: &[u8],
+    cost: i64,
+    entries: &[Entry],
+    bounds: (u64, u64),
+) -> Result<Column, Memory> {
+    Ok(Column {
+        name: Listed::new(Vec::from_slice(alloc, name)?),
+        cost,
+        entries: Listed::new(Vec::from_slice(alloc, entries)?),
+        lower: bounds.0,
+        upper: bounds.1,
+    })
+}
+
+#[test]
+fn each_form_of_line_is_read(rt: HostRuntime) -> Result<(), Fail> {
+    let alloc = rt.alloc();
+    let rows = vec![in alloc;
+        row(alloc, b"R", RowKind::Equal, -4)?,
+        row(alloc, b"S", RowKind::Least, 5)?,
+    ]?;
+    let fixed = bounded_column(alloc, b"X", -2, &[entry(1, 8), entry(2, 1)], (6, 6))?;
+    let open = bounded_column(alloc, b"Y", 0, &[entry(2, 3)], (1, 7))?;
+    let program = Program {
+        objective: Listed::new(Vec::from_slice(alloc, b"C")?),
+        rows: Listed::new(rows),
+        columns: Listed::new(vec![in alloc; fixed, open]?),
+    };
+    assert!(rt; read(alloc, EACH_FORM)? == program);
+    Ok(())
 }

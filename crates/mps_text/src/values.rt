@@ -1,9 +1,13 @@
 //! Names and numbers in fields.
 
-ghost use Rattle.std.specs.Prelude.{◌≡◌};
+ghost use Rattle.std.specs.Prelude.{◌≡◌, [], ◌∷◌};
+ghost use Rattle.mps_text.specs.declared.faults.MpsCause.TheVariants as cause;
 ghost use Rattle.std.specs.List.{list_all};
-ghost use Rattle.mps_text.specs.Meaning.{is_visible, is_name, size_in, value_in, bound_in};
+ghost use Rattle.mps_text.specs.Meaning.{is_visible, is_name, size_in, value_in, bound_in, each_in};
+ghost use Rattle.mps_text.specs.inner.Readers.{both_of, Finds};
 
+use crate::faults::MpsCause;
+use crate::reader::LineFault;
 use arc_num::{MAX_PRICE, number};
 
 /// Whether a name keeps the rules.
@@ -36,7 +40,7 @@ fn size(field: &[u8]) -> Option<u64>
 }
 
 /// A value: digits, maybe with a minus sign before them.
-pub(crate) fn value(field: &[u8]) -> Option<i64>
+fn value(field: &[u8]) -> Option<i64>
     ensures { result ≡ value_in field.now }
 {
     match field.strip_prefix(b"-") {
@@ -58,5 +62,28 @@ pub(crate) fn bound(field: &[u8]) -> Option<u64>
     match value(field) {
         Some(n) if n >= 0 => Some(n as u64),
         _ => None,
+    }
+}
+
+/// The value of a field, or the cause that it is none.
+pub(crate) fn value_of(field: &[u8]) -> Result<i64, LineFault>
+    ensures { Finds result (value_in field.now) cause.Value }
+{
+    match value(field) {
+        Some(number) => Ok(number),
+        None => Err(LineFault::Bad(MpsCause::Value)),
+    }
+}
+
+/// The values of two fields, or the cause that one of them is none.
+pub(crate) fn two_numbers(first: &[u8], second: &[u8]) -> Result<(i64, i64), LineFault>
+    ensures { Finds (both_of result) (each_in value_in (first.now ∷ second.now ∷ [])) cause.Value }
+{
+    match value_of(first) {
+        Err(fault) => Err(fault),
+        Ok(one) => match value_of(second) {
+            Err(fault) => Err(fault),
+            Ok(two) => Ok((one, two)),
+        },
     }
 }

@@ -5,7 +5,7 @@ ghost use Rattle.arc_num.specs.Decimals.{signed_decimal};
 ghost use Rattle.flow_model.specs.Programs.{IsColumn, IsProgram, marker_word};
 ghost use Rattle.mps_text.specs.Written.{joined, spaced, kind_letter, row_line, cost_line, entry_line, column_lines, right_lines, bound_line, bound_lines, first_mark, last_mark, rows_section, columns_section, rights_section, bounds_section, mps_text_of};
 
-use arc_num::{Memory, push_number, push_signed};
+use arc_num::{Memory, push_bytes, push_number, push_signed};
 use flow_model::{Column, Program, Row, RowKind};
 use std::alloc::Global;
 
@@ -23,13 +23,6 @@ pub fn write_mps(alloc: Global, program: &Program) -> Result<Vec<u8>, Memory>
     push_bounds(&mut out, program)?;
     push_bytes(&mut out, b"ENDATA\n")?;
     Ok(out)
-}
-
-fn push_bytes(out: &mut Vec<u8>, bytes: &[u8]) -> Result<(), Memory>
-    ensures { OnOk result (out.new.items ≡ out.old.items ++ bytes.now) }
-{
-    out.extend_from_slice(bytes)?;
-    Ok(())
 }
 
 fn push_field(out: &mut Vec<u8>, field: &[u8]) -> Result<(), Memory>

@@ -1,7 +1,7 @@
 use Rattle.std.proofs.Common.{refl, ap, sym, ◌∙◌}
 use Rattle.mps_text.specs.Meaning.{with_bound}
-use Rattle.mps_text.specs.Readers.{takes_columns, precedes_columns}
-use Rattle.mps_text.proofs.Marks.{kept_late, names_kept, refused}
+use Rattle.mps_text.specs.inner.Readers.{takes_columns, precedes_columns}
+use Rattle.mps_text.proofs.LastColumns.{kept_late, names_kept, refused}
 use Rattle.mps_text.proofs.reader.Reader.put_bound.Goals as goal
 
 pub returns-then-set_bound-clause-kept : goal.returns-then-set_bound-clause-kept

@@ -1,5 +1,5 @@
 use Rattle.std.proofs.Common.{refl, ◌-◌, ap, arith}
-use Rattle.mps_text.proofs.Marks.{kept_last, marks_stay}
+use Rattle.mps_text.proofs.LastColumns.{kept_last, marks_stay}
 use Rattle.mps_text.proofs.reader.Reader.put_cost.Goals as goal
 
 pub returns-clause-kept : goal.returns-clause-kept

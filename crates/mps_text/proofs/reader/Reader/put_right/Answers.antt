@@ -1,6 +1,6 @@
 use Rattle.std.proofs.Common.{refl, ap}
-use Rattle.mps_text.specs.Readers.{takes_columns, precedes_columns}
-use Rattle.mps_text.proofs.Marks.{kept_late, row_names_kept}
+use Rattle.mps_text.specs.inner.Readers.{takes_columns, precedes_columns}
+use Rattle.mps_text.proofs.LastColumns.{kept_late, row_names_kept}
 use Rattle.mps_text.proofs.reader.Reader.put_right.Goals as goal
 
 pub returns-clause-kept : goal.returns-clause-kept

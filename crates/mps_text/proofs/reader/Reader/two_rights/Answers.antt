@@ -2,7 +2,7 @@ use Rattle.std.proofs.Common.{◌≡◌, sym, ap, ◌∙◌, subst, ◌∷◌, [
 use Rattle.std.proofs.lemmas.Int.{to_z-of_z}
 use Rattle.mps_text.specs.declared.faults.MpsCause.TheVariants as cause
 use Rattle.mps_text.specs.Meaning.{Reading, change_at, with_right}
-use Rattle.mps_text.specs.Readers.{reading_of, Finds, opened}
+use Rattle.mps_text.specs.inner.Readers.{reading_of, Finds, opened}
 use Rattle.mps_text.proofs.Twice.{two_rights_judged, keeps_columns_reading}
 use Rattle.mps_text.proofs.reader.Reader.two_rights.Goals as goal
 

@@ -1,7 +1,7 @@
 -- Each row computes.
 use Rattle.std.proofs.Common.{refl}
 use Rattle.std.specs.Fmt.{digits}
-use Rattle.mps_text.proofs.laws.rows_are_worked.Goals as goal
+use Rattle.mps_text.proofs.laws.examples_come_out.Goals as goal
 
 pub returns : goal.returns
 unfolding digits

@@ -11,7 +11,7 @@ use Rattle.mps_text.specs.Meaning.{row_names, column_names, change_at, has_entry
 use Rattle.mps_text.specs.declared.stages.Stage.{Stage}
 use Rattle.mps_text.specs.declared.stages.Stage.TheVariants.{Columns}
 use Rattle.mps_text.specs.declared.reader.Reader.{Reader}
-use Rattle.mps_text.specs.Readers.{AreMarks, IsKept, takes_columns, precedes_columns}
+use Rattle.mps_text.specs.inner.Readers.{AreLastColumns, IsKept, takes_columns, precedes_columns}
 
 -- an element that is there
 pub get_some : {A : Type 0} (xs : List A) (i : ℕ) (d : A) → i < length xs → slice_get xs i ≡ Some (get_or xs i d)
@@ -34,8 +34,8 @@ names_kept (x ∷ columns) zero d c h e = ap (λ (z : List ℕ). z ∷ column_na
 names_kept (x ∷ columns) (suc i) d c h e = ap (λ (z : List (List ℕ)). x.name ∷ z) (names_kept columns i d c (omega arith) e)
 
 -- the last column with a value that is no entry
-pub marks_stay : (marks : List ℕ) (rows : List ReadRow) (columns : List ReadColumn) (i : ℕ) (d c : ReadColumn) → AreMarks marks rows columns → i < length columns → i ≡ length columns - 1 → c.entries ≡ (get_or columns i d).entries
-    → AreMarks marks rows (set columns i c)
+pub marks_stay : (marks : List ℕ) (rows : List ReadRow) (columns : List ReadColumn) (i : ℕ) (d c : ReadColumn) → AreLastColumns marks rows columns → i < length columns → i ≡ length columns - 1 → c.entries ≡ (get_or columns i d).entries
+    → AreLastColumns marks rows (set columns i c)
 marks_stay marks rows columns i d c h lt last same =
     let size : length (set columns i c) ≡ length columns = length-set columns i c in
     record {
@@ -54,12 +54,12 @@ begun stage e h = let f : false ≡ true = sym (ap precedes_columns e) ∙ h in 
 -- the reader after a change of the last column that keeps its name, with marks that agree
 pub kept_last : (r s : Reader) (i : ℕ) (d c : ReadColumn) → IsKept r → r.stage ≡ Columns → i < length r.columns.items → c.name ≡ (get_or r.columns.items i d).name
     → s.stage ≡ r.stage → s.row_names ≡ r.row_names → s.rows.items ≡ r.rows.items → s.column_names ≡ r.column_names → s.columns.items ≡ set r.columns.items i c
-    → (AreMarks r.marks.items r.rows.items r.columns.items → AreMarks s.marks.items s.rows.items s.columns.items) → IsKept s
+    → (AreLastColumns r.last_columns.items r.rows.items r.columns.items → AreLastColumns s.last_columns.items s.rows.items s.columns.items) → IsKept s
 kept_last r s i d c h at lt name stage row_names_same rows_same column_names_same columns_same marks =
     record {
       row_names_are = row_names_same ∙ (h.row_names_are ∙ ap row_names (sym rows_same));
       column_names_are = column_names_same ∙ (h.column_names_are ∙ (sym (names_kept r.columns.items i d c lt name) ∙ ap column_names (sym columns_same)));
-      marks_are = (λ t. marks (h.marks_are (ap takes_columns (sym stage) ∙ t)));
+      last_columns_are = (λ t. marks (h.last_columns_are (ap takes_columns (sym stage) ∙ t)));
       none_yet = (λ p. absurd (begun s.stage (stage ∙ at) p));
     }
 
@@ -110,9 +110,9 @@ mark_last marks place count k size old (inr n) fits same was =
     ap (λ (z : ℕ). z == size) there ∙ (was ∙ sym (or_left old (place + 1 == suc k) (other place k n)))
 
 -- the last column with one more entry
-pub marks_move : (marks : List ℕ) (rows : List ReadRow) (columns : List ReadColumn) (i place count : ℕ) (d c : ReadColumn) (value : ℤ) → AreMarks marks rows columns → i < length columns → i ≡ length columns - 1 → place < length rows → count ≡ length columns
+pub marks_move : (marks : List ℕ) (rows : List ReadRow) (columns : List ReadColumn) (i place count : ℕ) (d c : ReadColumn) (value : ℤ) → AreLastColumns marks rows columns → i < length columns → i ≡ length columns - 1 → place < length rows → count ≡ length columns
     → c.entries ≡ (get_or columns i d).entries ++ record { row = place + 1; value = value } ∷ []
-    → AreMarks (set marks place count) rows (set columns i c)
+    → AreLastColumns (set marks place count) rows (set columns i c)
 marks_move marks rows columns i place count d c value h lt last_is within count_is entries =
     let size : length (set columns i c) ≡ length columns = length-set columns i c in
     let room : length (set marks place count) ≡ length marks = length-set marks place count in
@@ -130,7 +130,7 @@ marks_move marks rows columns i place count d c value h lt last_is within count_
     }
 
 -- a second value of a row is refused
-pub entry_refused : (marks : List ℕ) (rows : List ReadRow) (columns : List ReadColumn) (place i : ℕ) (value : ℤ) (d : ReadColumn) → AreMarks marks rows columns → place < length rows → 0 < length columns → i ≡ length columns - 1 → get_or marks place 0 ≡ length columns
+pub entry_refused : (marks : List ℕ) (rows : List ReadRow) (columns : List ReadColumn) (place i : ℕ) (value : ℤ) (d : ReadColumn) → AreLastColumns marks rows columns → place < length rows → 0 < length columns → i ≡ length columns - 1 → get_or marks place 0 ≡ length columns
     → change_at i (with_entry (place + 1) value) columns ≡ None
 entry_refused marks rows columns place i value d h within some last marked =
     let fits : place < length marks = let s = h.size in omega arith in
@@ -143,7 +143,7 @@ other_size : (n m : ℕ) → n ≢ m → (n == m) ≡ false
 other_size n m h = grind (arith, nat_tests)
 
 -- the first value of a row is taken
-pub entry_taken : (marks : List ℕ) (rows : List ReadRow) (columns : List ReadColumn) (place i : ℕ) (value : ℤ) (d c : ReadColumn) → AreMarks marks rows columns → place < length rows → 0 < length columns → i ≡ length columns - 1 → get_or marks place 0 ≢ length columns
+pub entry_taken : (marks : List ℕ) (rows : List ReadRow) (columns : List ReadColumn) (place i : ℕ) (value : ℤ) (d c : ReadColumn) → AreLastColumns marks rows columns → place < length rows → 0 < length columns → i ≡ length columns - 1 → get_or marks place 0 ≢ length columns
     → c ≡ record (get_or columns i d) { entries = (get_or columns i d).entries ++ record { row = place + 1; value = value } ∷ [] } → change_at i (with_entry (place + 1) value) columns ≡ Some (set columns i c)
 entry_taken marks rows columns place i value d c h within some last marked e =
     let fits : place < length marks = let s = h.size in omega arith in
@@ -173,6 +173,6 @@ kept_late r s h late behind stage row_names_same rows_same column_names_same col
     record {
       row_names_are = row_names_same ∙ (h.row_names_are ∙ sym rows_same);
       column_names_are = column_names_same ∙ (h.column_names_are ∙ sym columns_same);
-      marks_are = (λ t. absurd (never (takes_columns s.stage) (ap takes_columns stage ∙ late) t));
+      last_columns_are = (λ t. absurd (never (takes_columns s.stage) (ap takes_columns stage ∙ late) t));
       none_yet = (λ p. absurd (never (precedes_columns s.stage) (ap precedes_columns stage ∙ behind) p));
     }

@@ -14,7 +14,7 @@ use Rattle.mps_text.specs.Meaning.{Reading, Judged, row_names, column_names, has
 
 -- what a reader has read
 abbrev pub reading_of : Reader → Reading
-reading_of r = record { stage = r.stage; whole = r.whole; objective = r.objective; rows = r.rows.items; columns = r.columns.items }
+reading_of r = record { stage = r.stage; integers_open = r.integers_open; objective = r.objective; rows = r.rows.items; columns = r.columns.items }
 
 -- whether columns may still come, and whether none has come
 abbrev pub takes_columns : Stage → Bool
@@ -29,17 +29,17 @@ precedes_columns Named = true
 precedes_columns Rows = true
 precedes_columns stage = false
 
--- each row has a mark: the number of the last column with a value in it, where this is the last column
-pub record AreMarks (marks : List ℕ) (rows : List ReadRow) (columns : List ReadColumn) : Type 0 where
-  pub size : length marks ≡ length rows
-  pub bound : (k : ℕ) → k < length marks → get_or marks k 0 ≤ length columns
-  pub last : (k : ℕ) (c : ReadColumn) → k < length marks → 0 < length columns → (get_or marks k 0 == length columns) ≡ has_entry (suc k) (get_or columns (length columns - 1) c)
+-- each row has the number of the last column with a value in it, where this is the last column
+pub record AreLastColumns (last_columns : List ℕ) (rows : List ReadRow) (columns : List ReadColumn) : Type 0 where
+  pub size : length last_columns ≡ length rows
+  pub bound : (k : ℕ) → k < length last_columns → get_or last_columns k 0 ≤ length columns
+  pub last : (k : ℕ) (c : ReadColumn) → k < length last_columns → 0 < length columns → (get_or last_columns k 0 == length columns) ≡ has_entry (suc k) (get_or columns (length columns - 1) c)
 
--- the names are those of the rows and columns, and the marks are kept while columns may come
+-- the names are those of the rows and columns, and the last columns are kept while columns may come
 pub record IsKept (r : Reader) : Type 0 where
   pub row_names_are : r.row_names ≡ row_names r.rows.items
   pub column_names_are : r.column_names ≡ column_names r.columns.items
-  pub marks_are : takes_columns r.stage ≡ true → AreMarks r.marks.items r.rows.items r.columns.items
+  pub last_columns_are : takes_columns r.stage ≡ true → AreLastColumns r.last_columns.items r.rows.items r.columns.items
   pub none_yet : precedes_columns r.stage ≡ true → r.columns.items ≡ []
 
 -- the answer to a line is what it leaves, or its cause, or want of memory
@@ -64,17 +64,17 @@ abbrev pub both_of : {A : Type 0} → Result (A × A) LineFault → Result (List
 both_of (Ok pair) = Ok (pair.0 ∷ pair.1 ∷ [])
 both_of (Err fault) = Err fault
 
--- all but the columns and the marks is as before
+-- all but the columns and the last columns of rows is as before
 pub record KeepsAll (old new : Reader) : Type 0 where
   pub stage : new.stage ≡ old.stage
-  pub whole : new.whole ≡ old.whole
+  pub integers_open : new.integers_open ≡ old.integers_open
   pub objective : new.objective ≡ old.objective
   pub rows : new.rows.items ≡ old.rows.items
 
 -- all but the rows is as before
 pub record KeepsColumns (old new : Reader) : Type 0 where
   pub stage : new.stage ≡ old.stage
-  pub whole : new.whole ≡ old.whole
+  pub integers_open : new.integers_open ≡ old.integers_open
   pub objective : new.objective ≡ old.objective
   pub columns : new.columns.items ≡ old.columns.items
 
@@ -83,3 +83,8 @@ abbrev pub Reads : {A : Type 0} → Result A MpsFault → Result Reading MpsFaul
 Reads (Ok x) read after = read ≡ Ok after
 Reads (Err (fault.Bad n e)) read after = read ≡ Err (fault.Bad n e)
 Reads (Err fault.Memory) read after = Unit {0}
+
+-- the fault of a text whose line with this number is at fault so
+abbrev pub at_line : LineFault → ℕ → MpsFault
+at_line (Bad e) line = fault.Bad line e
+at_line Memory line = fault.Memory
