@@ -1,6 +1,9 @@
 -- No arc stands twice on a run.
-use Rattle.std.proofs.Common.{◌≡◌, ◌≢◌, ℕ, zero, suc, ◌<◌, ◌≤◌, Bool, true, false, cond, ◌==◌, List, [], ◌∷◌, length, refl, sym, ap, ◌∙◌, arith, All}
-use Rattle.std.specs.Prelude.{Some, AllPairs}
+use Rattle.std.proofs.Common.{◌≡◌, ◌≢◌, ℕ, zero, suc, ◌<◌, ◌≤◌, Bool, true, false, cond, ◌==◌, List, [], ◌∷◌, length, refl, sym, ap, ◌∙◌, ⊎_elim, arith, All}
+use Rattle.std.specs.Prelude.{◌||◌, Some, AllPairs}
+use Rattle.std.specs.List.{list_any}
+use Rattle.std.proofs.lemmas.Bool.{cases_eq, eq-eqb, ne_eqb}
+use Rattle.std.proofs.lemmas.List.Folds.{list_any_none}
 use Rattle.std.proofs.lemmas.Option.{slice_get_within}
 use Rattle.std.proofs.lemmas.List.Elements.{All-nil, All-cons, All-weaker}
 use Rattle.std.proofs.lemmas.List.Kept.{AllPairs-cons}
@@ -12,9 +15,9 @@ use Rattle.flow_graph.specs.Arcs.{TypeValue, IsFlowType, IsFlowGraph, flow_type,
 use Rattle.flow_graph.specs.Faithful.{IsPath, AreNumbersOf}
 use Rattle.flow_graph.proofs.Places.{arc_at-suc, has_numbers}
 use Rattle.pattern_extract.specs.declared.runs.PathRun.{PathRun}
-use Rattle.pattern_extract.specs.Runs.{IsRun}
-use Rattle.pattern_extract.specs.Walks.{circuit_of}
-use Rattle.pattern_extract.proofs.Places.{arc_climbs, type_is}
+use Rattle.pattern_extract.specs.Runs.{IsRun, goes_over}
+use Rattle.pattern_extract.specs.inner.Walks.{circuit_of}
+use Rattle.flow_graph.proofs.ArcKinds.{arc_climbs, some_same, type_is}
 
 -- where an arc begins; a bin arc counts as beginning in no node
 abbrev start_of : ArcKind → ℕ
@@ -44,9 +47,6 @@ module _ (g : List TypeValue) (t : ℕ) (is : IsFlowType (flow_type g t)) where
       (record { kind = kind_of t e; there = are.0; later = omega (arith, start, tail) })
       (All-weaker (BeginsFrom g e.head) (BeginsFrom g a) (λ m own. let low = own.later in record { kind = own.kind; there = own.there; later = omega (arith, low, up.1, tail) }) ns (begins ns path e.head b leads.2 are.1))
 
-  some_same : (x y : ArcKind) → Some x ≡ Some y → x ≡ y
-  some_same x y h = cc
-
   other-arc : (n m a : ℕ) (kind : ArcKind) → arc_at g n ≡ Some kind → start_of kind < a → BeginsFrom g a m → n ≢ m
   other-arc n m a kind there early later same =
       let one : kind ≡ later.kind = some_same kind later.kind (sym there ∙ ap (arc_at g) same ∙ later.there) in
@@ -72,6 +72,25 @@ circuit-apart g run is one =
     AllPairs-cons (λ n m. n ≢ m) (first_arc g t) run.arcs
     (All-weaker (BeginsFrom g 1) (λ m. first_arc g t ≢ m) (λ m later. other-arc g t own (first_arc g t) m 1 (Bin t) bin (omega arith) later) run.arcs (begins g t own run.arcs path.0 1 (flow_type g t).nodes path.1 path.2))
     (apart g t own run.arcs path.0 1 (flow_type g t).nodes path.1 path.2)
+
+-- a run goes over the bin arc of its own type, and over no other
+pub over-bin : (g : List TypeValue) (t : ℕ) (run : PathRun) → IsFlowGraph g → IsAmong t (length g) → IsRun g run → goes_over g (first_arc g t) run ≡ (run.t == t)
+over-bin g t run is among one =
+    let own = type_is g is run.t one.of_type in
+    let path = one.path in
+    let bin = (has_numbers g t among).bin in
+    let run_bin = (has_numbers g run.t one.of_type).bin in
+    let off = list_any_none (λ n. n == first_arc g t) run.arcs (All-weaker (BeginsFrom g 1) (λ m. (m == first_arc g t) ≡ false)
+    (λ m later. ne_eqb m (first_arc g t) (λ e. other-arc g run.t own (first_arc g t) m 1 (Bin t) bin (omega arith) later (sym e))) run.arcs (begins g run.t own run.arcs path.0 1 (flow_type g run.t).nodes path.1 path.2)) in
+    ⊎_elim
+    (λ same. ap (λ (b : Bool). b || list_any (λ n. n == first_arc g t) run.arcs) (eq-eqb (first_arc g run.t) (first_arc g t) (ap (first_arc g) same)) ∙ sym (eq-eqb run.t t same))
+    (λ other.
+    let apart : (first_arc g run.t == first_arc g t) ≡ false = ne_eqb (first_arc g run.t) (first_arc g t) (λ e. other (same_type run.t t (some_same (Bin run.t) (Bin t) (sym run_bin ∙ ap (arc_at g) e ∙ bin)))) in
+    ap (λ (b : Bool). b || list_any (λ n. n == first_arc g t) run.arcs) apart ∙ off ∙ sym (ne_eqb run.t t other))
+    (cases_eq run.t t)
+  where
+    same_type : (s t : ℕ) → Bin s ≡ Bin t → s ≡ t
+    same_type s t h = cc
 
 pub number-within : (g : List TypeValue) (n : ℕ) (kind : ArcKind) → arc_at g n ≡ Some kind → IsAmong n (length (numbered g))
 number-within g zero kind at = cc

@@ -7,12 +7,13 @@ use Rattle.flow_graph.specs.declared.parts.ArcKind.TheVariants.{Bin}
 use Rattle.flow_graph.specs.Arcs.{TypeValue, flow_type, kind_of, numbered, first_arc}
 use Rattle.flow_graph.specs.Faithful.{IsPath, AreNumbersOf}
 use Rattle.flow_graph.proofs.Places.{has_numbers}
-use Rattle.flow_model.specs.Flows.{comes_in, goes_out}
+use Rattle.flow_graph.specs.Ends.{comes_in, goes_out}
 use Rattle.pattern_extract.specs.declared.runs.PathRun.{PathRun}
 use Rattle.pattern_extract.specs.Runs.{AreConserved, IsRun}
-use Rattle.pattern_extract.specs.Walks.{weight_along, circuit_of, IsTaken}
+use Rattle.pattern_extract.specs.inner.Walks.{weight_along, circuit_of, IsTaken}
 use Rattle.pattern_extract.proofs.Weights.{weigh_arcs-weigh}
-use Rattle.pattern_extract.proofs.Places.{place_weight, one_if, number_weight-at, comes_in-kind, goes_out-kind}
+use Rattle.flow_graph.proofs.ArcKinds.{comes_kind, goes_kind}
+use Rattle.pattern_extract.proofs.Places.{place_weight, one_if, number_weight-at}
 use Rattle.pattern_extract.proofs.Steps.{coming, going, coming-going}
 
 abbrev into : List TypeValue → ℕ → ℕ → ℕ → ℕ
@@ -30,8 +31,8 @@ path-balance g t s v [] (e ∷ path) a b leads are = absurd are
 path-balance g t s v (n ∷ ns) [] a b leads are = absurd are
 path-balance g t s v (n ∷ ns) (e ∷ path) a b leads are =
     let rest : weight_along (into g s v) ns + at t s e.head v ≡ weight_along (from g s v) ns + at t s b v = path-balance g t s v ns path e.head b leads.2 are.1 in
-    let head : into g s v (n - 1) ≡ at t s e.head v = number_weight-at (one_if (comes_in s v)) g n (kind_of t e) are.0 ∙ ap (λ (c : Bool). cond {A = ℕ} c 1 0) (comes_in-kind t s v e) in
-    let tail : from g s v (n - 1) ≡ at t s a v = number_weight-at (one_if (goes_out g s v)) g n (kind_of t e) are.0 ∙ ap (λ (c : Bool). cond {A = ℕ} c 1 0) (goes_out-kind g t s v e) ∙ ap (λ (u : ℕ). at t s u v) leads.1 in
+    let head : into g s v (n - 1) ≡ at t s e.head v = number_weight-at (one_if (comes_in s v)) g n (kind_of t e) are.0 ∙ ap (λ (c : Bool). cond {A = ℕ} c 1 0) (comes_kind s v t e) in
+    let tail : from g s v (n - 1) ≡ at t s a v = number_weight-at (one_if (goes_out g s v)) g n (kind_of t e) are.0 ∙ ap (λ (c : Bool). cond {A = ℕ} c 1 0) (goes_kind g s v t e) ∙ ap (λ (u : ℕ). at t s u v) leads.1 in
     let one = sum_by-cons (λ (m : ℕ). into g s v (m - 1)) n ns in
     let two = sum_by-cons (λ (m : ℕ). from g s v (m - 1)) n ns in
     omega (arith, rest, head, tail, one, two)

@@ -5,8 +5,9 @@ use Rattle.std.proofs.lemmas.Option.{get_or_from_slice_get, slice_get_within}
 use Rattle.std.proofs.lemmas.List.{get_or-set_same, get_or-set_other}
 use Rattle.flow_graph.specs.declared.parts.ArcKind.{ArcKind}
 use Rattle.flow_graph.specs.Arcs.{TypeValue, IsFlowType, flow_type, numbered, first_arc}
-use Rattle.pattern_extract.specs.Walks.{goes_on, IsWayOn, AreCursors}
-use Rattle.pattern_extract.proofs.Places.{nothing, arc_from, climbs_at}
+use Rattle.pattern_extract.specs.inner.Walks.{goes_on, IsWayOn, AreCursors}
+use Rattle.flow_graph.proofs.ArcKinds.{nothing}
+use Rattle.pattern_extract.proofs.Places.{arc_from, climbs_at}
 
 pub way-kind : (kinds : List ArcKind) (left : List ℕ) (t v k : ℕ) (d : ArcKind) (way : IsWayOn kinds left t v k) → get_or kinds k d ≡ way.kind
 way-kind kinds left t v k d way = get_or_from_slice_get kinds k way.kind d way.there

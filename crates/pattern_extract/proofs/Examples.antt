@@ -6,7 +6,8 @@ use Rattle.std.proofs.lemmas.List.Sums.{sum_by-cons}
 use Rattle.std.proofs.lemmas.List.Elements.{All-nil, All-cons, All-head, All-tail, All-weaker}
 use Rattle.packing_laws.specs.declared.packings.Count.{Count}
 use Rattle.packing_laws.specs.Instances.{IsAmong, item_at, form_at}
-use Rattle.packing_laws.specs.Packings.{Content, Exists, Fits, IsWithin, count_of_form, weight_in}
+use Rattle.packing_laws.specs.declared.instances.ItemCap.{ItemCap}
+use Rattle.packing_laws.specs.Packings.{Content, Exists, Fits, IsWithin, count_of_item, count_of_form, weight_in}
 use Rattle.packing_laws.specs.Printed.{SameContent, units_in}
 use Rattle.flow_graph.specs.declared.parts.TypeArc.{TypeArc}
 use Rattle.flow_graph.specs.Faithful.{IsPath, IsTypePath, IsFaithful, GraphOf, content_of}
@@ -145,6 +146,7 @@ few-fits c all few = record {
       let e : 1 ≡ d = omega (arith, among.0, among.1) in
       let weight = only-weight c all in
       subst (λ (d : ℕ). weight_in three_of_one d c ≤ slice_index (2 ∷ []) (d - 1)) e (omega (arith, weight, few));
+  caps = All-nil (λ (k : ItemCap). count_of_item k.item c ≤ k.count);
 }
 
 no_unit : All IsOnly []

@@ -1,5 +1,5 @@
 -- Trimmed bins of a flow are a packing that costs what the flow costs.
-use Rattle.std.proofs.Common.{◌≡◌, ℕ, ◌-◌, ◌*◌, ◌^◌, ◌<◌, ◌≤◌, Bool, cond, ◌==◌, List, [], ◌∷◌, length, get_or, map, refl, sym, ap, ◌∙◌, subst, ⊎_elim, arith, All}
+use Rattle.std.proofs.Common.{◌≡◌, ℕ, ◌-◌, ◌*◌, ◌^◌, ◌<◌, ◌≤◌, Bool, true, false, cond, ◌==◌, List, [], ◌∷◌, length, get_or, map, refl, sym, ap, ◌∙◌, subst, ⊎_elim, arith, All}
 use Rattle.std.specs.Prelude.{Option, Some, None, IfSome, sum_by}
 use Rattle.std.proofs.lemmas.Bool.{cases_eq, eq-eqb, ne_eqb}
 use Rattle.std.proofs.lemmas.Option.{get_or_from_slice_get}
@@ -15,19 +15,20 @@ use Rattle.packing_laws.proofs.WrittenSums.{cost_of-bins_of}
 use Rattle.packing_laws.proofs.WrittenPackings.{used_of-bins_of, count_of_item-bins_of, IsWrittenPacking-made}
 use Rattle.flow_graph.specs.declared.parts.ArcKind.{ArcKind}
 use Rattle.flow_graph.specs.declared.parts.ArcKind.TheVariants.{Bin}
-use Rattle.flow_graph.specs.Arcs.{TypeValue, numbered, first_arc}
+use Rattle.flow_graph.specs.Arcs.{TypeValue, IsFlowGraph, numbered, first_arc}
 use Rattle.flow_graph.specs.Faithful.{IsFaithful}
 use Rattle.flow_model.specs.Boxes.{limited, upper_of}
 use Rattle.flow_model.specs.Flows.{IsFlow, arc_cost, carries, flow_cost, total_of}
 use Rattle.pattern_extract.specs.declared.runs.PathRun.{PathRun}
-use Rattle.pattern_extract.specs.Runs.{IsRun}
-use Rattle.pattern_extract.specs.Walks.{weight_along, circuit_of, runs_weight, HoldAll}
+use Rattle.pattern_extract.specs.Runs.{IsRun, goes_over, times_over}
+use Rattle.pattern_extract.specs.inner.Walks.{weight_along, circuit_of, runs_weight, HoldAll}
 use Rattle.pattern_extract.specs.Trims.{held, over_types, IsUsedBin, MeetDemands}
-use Rattle.pattern_extract.specs.Extracts.{bin_of, units_along, IsPackingOf}
+use Rattle.pattern_extract.specs.Extracts.{bin_of, bins_of_type, units_along, IsPackingOf}
 use Rattle.pattern_extract.proofs.Weights.{weigh-one, weigh_arcs-weigh}
 use Rattle.pattern_extract.proofs.Places.{place_weight, one_if}
 use Rattle.pattern_extract.proofs.Steps.{bin-place}
-use Rattle.pattern_extract.proofs.RunSums.{only}
+use Rattle.pattern_extract.proofs.RunSums.{only, runs-of}
+use Rattle.pattern_extract.proofs.Apart.{over-bin}
 use Rattle.pattern_extract.proofs.Moves.{bin-inside}
 use Rattle.pattern_extract.proofs.PathContents.{circuit-cost, circuit-carries, run-fits}
 use Rattle.pattern_extract.proofs.Surplus.{value-most, value-small}
@@ -104,8 +105,33 @@ runs-small I g values runs instance flow all k d within =
 pub runs-fit : (I : InstanceValue) (g : List TypeValue) (runs : List PathRun) → IsFaithful I g → All (IsRun g) runs → All (IsUsedBin I) (map (bin_of g) runs)
 runs-fit I g runs faithful all = All-map (IsUsedBin I) (bin_of g) runs (All-weaker (IsRun g) (λ run. IsUsedBin I (bin_of g run)) (λ run is. run-fits I g run faithful is) runs all)
 
-pub packing-made : (I : InstanceValue) (g : List TypeValue) (values : List ℕ) (runs : List PathRun) (bins : List Alike) → IsFaithful I g → IsFlow I g values → HoldAll g values runs → MeetDemands I (map (bin_of g) runs) bins → IsPackingOf I g values bins
-packing-made I g values runs bins faithful flow all met = record {
+scaled : (n : ℕ) (b : Bool) → n * cond b 1 0 ≡ cond b n 0
+scaled n true = omega arith
+scaled n false = omega arith
+
+-- bins of one type, as a sum over types
+types-of : (t : ℕ) (bins : List Alike) → bins_of_type t bins ≡ over_types (λ s. cond (s == t) 1 0) bins
+types-of t [] = refl
+types-of t (b ∷ bins) =
+    let rest = types-of t bins in
+    let first = scaled b.times (b.bin_type == t) in
+    let one = sum_by-cons (λ (c : Alike). cond (c.bin_type == t) c.times 0) b bins in
+    let two = sum_by-cons (λ (c : Alike). c.times * cond (c.bin_type == t) 1 0) b bins in
+    omega (arith, rest, first, one, two)
+
+-- the bins of the runs of a type are used as often as the runs go over its bin arc
+runs-of-type : (g : List TypeValue) (t : ℕ) (runs : List PathRun) → IsFlowGraph g → IsAmong t (length g) → All (IsRun g) runs → over_types (λ s. cond (s == t) 1 0) (map (bin_of g) runs) ≡ times_over g runs (first_arc g t)
+runs-of-type g t [] is among all = refl
+runs-of-type g t (run ∷ runs) is among all =
+    let rest = runs-of-type g t runs is among (All-tail (IsRun g) run runs all) in
+    let over = over-bin g t run is among (All-head (IsRun g) run runs all) in
+    let first : run.times * cond (run.t == t) 1 0 ≡ cond (goes_over g (first_arc g t) run) run.times 0 = scaled run.times (run.t == t) ∙ ap (λ (b : Bool). cond {A = ℕ} b run.times 0) (sym over) in
+    let one = sum_by-cons (λ (c : Alike). c.times * cond (c.bin_type == t) 1 0) (bin_of g run) (map (bin_of g) runs) in
+    let two = sum_by-cons (λ (r : PathRun). cond (goes_over g (first_arc g t) r) r.times 0) run runs in
+    omega (arith, rest, first, one, two)
+
+pub packing-made : (I : InstanceValue) (g : List TypeValue) (values : List ℕ) (runs : List PathRun) (bins : List Alike) → IsFlowGraph g → IsFaithful I g → IsFlow I g values → HoldAll g values runs → MeetDemands I (map (bin_of g) runs) bins → IsPackingOf I g values bins
+packing-made I g values runs bins is faithful flow all met = record {
   flow = flow;
   packing = IsWrittenPacking-made I bins
       (All-weaker (IsUsedBin I) (λ b. Fits I b.bin_type b.counts) (λ b own. own.fits) bins met.each)
@@ -121,4 +147,8 @@ packing-made I g values runs bins faithful flow all met = record {
       within-limit (used_of t (bins_of bins)) (units_of I) (type_at I t).limit (omega (arith, used, same, few, most)))
       (λ i among. count_of_item-bins_of i bins ∙ met.units i among);
   cost = cost_of-bins_of I bins ∙ met.types (cost_at I) ∙ runs-cost I g values runs all;
+  types = λ t among. types-of t bins ∙ met.types (λ s. cond (s == t) 1 0) ∙ runs-of-type g t runs is among all.each ∙ (runs-of g values runs is all).sums (first_arc g t) (bin-inside g t among);
+  runs = runs;
+  are_runs = runs-of g values runs is all;
+  parts = met.parts;
 }

@@ -8,6 +8,7 @@ pub mod Drained
 pub mod Moves
 pub mod RunSums
 pub mod Reducing
+pub mod Parts
 pub mod Trimming
 pub mod PathContents
 pub mod Surplus

@@ -1,15 +1,17 @@
 -- Units that are moved off the arcs into runs.
-use Rattle.std.proofs.Common.{◌≡◌, ◌≢◌, ℕ, suc, ◌+◌, ◌-◌, ◌*◌, ◌<◌, ◌≤◌, Bool, cond, ◌==◌, List, [], ◌∷◌, ◌++◌, length, get_or, set, take, refl, sym, ap, ◌∙◌, subst, ⊎_elim, arith, All}
-use Rattle.std.proofs.lemmas.Bool.{cases_lt, eq-eqb}
-use Rattle.std.specs.Prelude.{AllPairs}
-use Rattle.std.proofs.lemmas.List.{get_or-set_other, length-set, get_or_default}
+use Rattle.std.proofs.Common.{◌≡◌, ◌≢◌, ℕ, suc, ◌+◌, ◌-◌, ◌*◌, ◌<◌, ◌≤◌, Bool, cond, ◌==◌, List, [], ◌∷◌, ◌++◌, length, get_or, set, take, true, false, zero, refl, sym, ap, ◌∙◌, subst, ⊎_elim, arith, All}
+use Rattle.std.proofs.lemmas.Bool.{cases_lt, eq-eqb, eqb-true}
+use Rattle.std.proofs.lemmas.Bool.Decides.{nat_tests}
+use Rattle.std.specs.Prelude.{AllPairs, ◌||◌, if◌then◌else◌}
+use Rattle.std.specs.List.{list_any}
+use Rattle.std.proofs.lemmas.List.{get_or-set_other, length-set, get_or_default, length_push}
 use Rattle.std.proofs.lemmas.List.Sums.{sum_by-cons, sum_by_more, sum_by_push}
 use Rattle.std.proofs.lemmas.List.Elements.{All-push}
 use Rattle.packing_laws.specs.Instances.{IsAmong}
 use Rattle.flow_graph.specs.Arcs.{TypeValue, IsFlowGraph, numbered, first_arc}
 use Rattle.pattern_extract.specs.declared.runs.PathRun.{PathRun}
 use Rattle.pattern_extract.specs.Runs.{AreConserved, IsRun}
-use Rattle.pattern_extract.specs.Walks.{weigh, weight_along, circuit_of, runs_weight, IsTaken, AreMoved, HoldAll}
+use Rattle.pattern_extract.specs.inner.Walks.{weigh, weight_along, circuit_of, runs_weight, IsTaken, IsUsedUp, arcs_left, AreMoved, HoldAll}
 use Rattle.pattern_extract.proofs.Weights.{weigh-set, weigh-one, weigh-none}
 use Rattle.pattern_extract.proofs.Balance.{conserved-after}
 use Rattle.pattern_extract.proofs.Apart.{circuit-apart, circuit-within, number-within}
@@ -100,14 +102,83 @@ taken-falls old new times arcs taken k =
     let after = weigh-one new k in
     omega (arith, all, before, after)
 
-pub moved-none : (g : List TypeValue) (left : List ℕ) (runs : List PathRun) → All (IsRun g) runs → AreConserved g left → AreMoved g left runs left runs
-moved-none g left runs each conserved = record { each = each; conserved = conserved; falls = λ k. omega arith; sums = λ f. refl }
+-- an arc of these weighs at least once
+along-some : (a : ℕ) (ns : List ℕ) → list_any (λ n. n == a) ns ≡ true → 1 ≤ weight_along (λ k. cond (k == a - 1) 1 0) ns
+along-some a [] h = absurd (cc)
+along-some a (n ∷ ns) h = by (n == a) refl h (along-some a ns)
+  where
+    split : weight_along (λ k. cond (k == a - 1) 1 0) (n ∷ ns) ≡ cond {A = ℕ} (n - 1 == a - 1) 1 0 + weight_along (λ k. cond (k == a - 1) 1 0) ns
+    split = sum_by-cons (λ (m : ℕ). cond {A = ℕ} (m - 1 == a - 1) 1 0) n ns
 
-pub moved-run : (g : List TypeValue) (left rest next : List ℕ) (runs more : List PathRun) (run : PathRun) → AreMoved g left runs rest more → IsRun g run → IsTaken rest next run.times (circuit_of g run) → AreMoved g left runs next (more ++ run ∷ [])
-moved-run g left rest next runs more run moved is taken = record {
+    by : (b : Bool) → (n == a) ≡ b → (b || list_any (λ n. n == a) ns) ≡ true → (list_any (λ n. n == a) ns ≡ true → 1 ≤ weight_along (λ k. cond (k == a - 1) 1 0) ns) → 1 ≤ weight_along (λ k. cond (k == a - 1) 1 0) (n ∷ ns)
+    by true e h next =
+        let same : n ≡ a = eqb-true n a e in
+        let one : cond {A = ℕ} (n - 1 == a - 1) 1 0 ≡ 1 = ap (λ (c : Bool). cond {A = ℕ} c 1 0) (eq-eqb (n - 1) (a - 1) (ap (λ (m : ℕ). m - 1) same)) in
+        let s = split in
+        omega (arith, s, one)
+    by false e h next = let rest = next h in let s = split in omega (arith, s, rest)
+
+-- where nothing is left any more of what was there
+some-less : (x y : ℕ) → y ≤ x → (if y == 0 then 0 else 1) ≤ (if x == 0 then 0 else 1)
+some-less x y le = grind (arith, nat_tests)
+
+gone : (x y : ℕ) → 0 < x → y ≡ 0 → (if y == 0 then 0 else 1) + 1 ≤ (if x == 0 then 0 else 1)
+gone x y some none = grind (arith, nat_tests)
+
+none-left : (new : List ℕ) → ((k : ℕ) → get_or new k 0 ≤ 0) → arcs_left new ≡ 0
+none-left [] falls = refl
+none-left (y ∷ new) falls =
+    let first = falls 0 in
+    let none : (if y == 0 then 0 else 1) ≤ 0 = some-less 0 y first in
+    let rest = none-left new (λ k. falls (suc k)) in
+    omega (arith, none, rest)
+
+no-more : (old new : List ℕ) → ((k : ℕ) → get_or new k 0 ≤ get_or old k 0) → arcs_left new ≤ arcs_left old
+no-more old [] falls = omega arith
+no-more [] (y ∷ new) falls = let none = none-left (y ∷ new) falls in omega (arith, none)
+no-more (x ∷ old) (y ∷ new) falls =
+    let first = some-less x y (falls 0) in
+    let rest = no-more old new (λ k. falls (suc k)) in
+    omega (arith, first, rest)
+
+fewer : (old new : List ℕ) (k : ℕ) → ((k : ℕ) → get_or new k 0 ≤ get_or old k 0) → 0 < get_or old k 0 → get_or new k 0 ≡ 0 → arcs_left new + 1 ≤ arcs_left old
+fewer [] new k falls some none = absurd (omega (arith, some))
+fewer (x ∷ old) [] zero falls some none = let one = gone x 0 some refl in omega (arith, one)
+fewer (x ∷ old) [] (suc k) falls some none = let rest = fewer old [] k (λ j. omega arith) some refl in omega (arith, rest)
+fewer (x ∷ old) (y ∷ new) zero falls some none =
+    let one = gone x y some none in
+    let rest = no-more old new (λ k. falls (suc k)) in
+    omega (arith, one, rest)
+fewer (x ∷ old) (y ∷ new) (suc k) falls some none =
+    let one = some-less x y (falls 0) in
+    let rest = fewer old new k (λ j. falls (suc j)) some none in
+    omega (arith, one, rest)
+
+-- what is taken off an arc that has no more
+fewer-taken : (old new : List ℕ) (times : ℕ) (arcs : List ℕ) → 1 ≤ times → IsUsedUp old times arcs → IsTaken old new times arcs → arcs_left new + 1 ≤ arcs_left old
+fewer-taken old new times arcs once used taken =
+    let b : ℕ = used.arc - 1 in
+    let all = taken (λ k. cond (k == b) 1 0) in
+    let before = weigh-one old b in
+    let after = weigh-one new b in
+    let some = along-some used.arc arcs used.among in
+    let more : times * 1 ≤ times * weight_along (λ k. cond (k == b) 1 0) arcs = mul-le-mul_left times some in
+    let whole : get_or old b 0 ≡ times = used.all in
+    fewer old new b (taken-falls old new times arcs taken) (omega (arith, whole, once)) (omega (arith, all, before, after, more, whole))
+
+pub moved-none : (g : List TypeValue) (left : List ℕ) (runs : List PathRun) → All (IsRun g) runs → AreConserved g left → AreMoved g left runs left runs
+moved-none g left runs each conserved = record { each = each; conserved = conserved; falls = λ k. omega arith; few = omega arith; sums = λ f. refl }
+
+pub moved-run : (g : List TypeValue) (left rest next : List ℕ) (runs more : List PathRun) (run : PathRun) → AreMoved g left runs rest more → IsRun g run → IsUsedUp rest run.times (circuit_of g run) → IsTaken rest next run.times (circuit_of g run) → AreMoved g left runs next (more ++ run ∷ [])
+moved-run g left rest next runs more run moved is used taken = record {
   each = All-push (IsRun g) more run moved.each is;
   conserved = conserved-after g rest next run moved.conserved is taken;
   falls = λ k. let one = moved.falls k in let two = taken-falls rest next run.times (circuit_of g run) taken k in omega (arith, one, two);
+  few =
+      let before = moved.few in
+      let less = fewer-taken rest next run.times (circuit_of g run) is.times used taken in
+      let size : length (more ++ run ∷ []) ≡ length more + 1 = length_push more run in
+      omega (arith, before, less, size);
   sums = λ f.
       let before = moved.sums f in
       let step = taken f in
@@ -120,6 +191,7 @@ moved-further g left mid rest runs some more one two = record {
   each = two.each;
   conserved = two.conserved;
   falls = λ k. let a = one.falls k in let b = two.falls k in omega (arith, a, b);
+  few = let a = one.few in let b = two.few in omega (arith, a, b);
   sums = λ f. one.sums f ∙ two.sums f;
 }
 
@@ -162,3 +234,14 @@ bin-inside g t among = number-within g (first_arc g t) (Bin t) (has_numbers g t 
 -- the arcs of a path are among all arcs
 pub path-within : (g : List TypeValue) (run : PathRun) → IsFlowGraph g → IsRun g run → All (λ a. IsAmong a (length (numbered g))) run.arcs
 path-within g run is one k d within = circuit-within g run is one (suc k) d (omega (arith, within))
+
+left-most : (left : List ℕ) → arcs_left left ≤ length left
+left-most [] = omega arith
+left-most (x ∷ left) =
+    let first : (if x == 0 then 0 else 1) ≤ 1 = grind (arith, nat_tests) in
+    let rest = left-most left in
+    omega (arith, first, rest)
+
+-- there are no more runs than arcs
+pub few-runs : (g : List TypeValue) (values rest : List ℕ) (runs : List PathRun) → AreMoved g values [] rest runs → length runs ≤ length values
+few-runs g values rest runs moved = let few = moved.few in let most = left-most values in omega (arith, few, most)

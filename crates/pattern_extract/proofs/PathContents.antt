@@ -15,14 +15,15 @@ use Rattle.flow_graph.specs.declared.parts.ArcKind.{ArcKind}
 use Rattle.flow_graph.specs.declared.parts.ArcKind.TheVariants.{Bin, Loss, Piece}
 use Rattle.flow_graph.specs.Arcs.{TypeValue, kind_of, numbered, first_arc}
 use Rattle.flow_graph.specs.Faithful.{AreNumbersOf, IsFaithful, content_of}
+use Rattle.flow_graph.proofs.ArcKinds.{place_of}
 use Rattle.flow_graph.proofs.Places.{has_numbers}
 use Rattle.flow_model.specs.Flows.{arc_cost, carries}
 use Rattle.pattern_extract.specs.declared.runs.PathRun.{PathRun}
 use Rattle.pattern_extract.specs.Runs.{IsRun}
-use Rattle.pattern_extract.specs.Walks.{weight_along, circuit_of}
+use Rattle.pattern_extract.specs.inner.Walks.{weight_along, circuit_of}
 use Rattle.pattern_extract.specs.Extracts.{unit_on, units_along, bin_of}
 use Rattle.pattern_extract.specs.Trims.{IsUsedBin}
-use Rattle.pattern_extract.proofs.Places.{place_weight, one_if, at_number, number_weight-at}
+use Rattle.pattern_extract.proofs.Places.{place_weight, one_if, number_weight-at}
 
 one-unit : (o : Option Count) → cons_option o [] ≡ option_to_list o
 one-unit None = refl
@@ -44,7 +45,7 @@ units-content g t [] (e ∷ path) are = absurd are
 units-content g t (n ∷ ns) [] are = absurd are
 units-content g t (n ∷ ns) (e ∷ path) are =
     let rest : units_along (numbered g) ns ≡ content_of path = units-content g t ns path are.1 in
-    let there : get_or (numbered g) (n - 1) (Bin 0) ≡ kind_of t e = get_or_from_slice_get (numbered g) (n - 1) (kind_of t e) (Bin 0) (at_number g n (kind_of t e) are.0) in
+    let there : get_or (numbered g) (n - 1) (Bin 0) ≡ kind_of t e = get_or_from_slice_get (numbered g) (n - 1) (kind_of t e) (Bin 0) (place_of g n (kind_of t e) are.0) in
     ap (λ (kind : ArcKind). cons_option (unit_on kind) (units_along (numbered g) ns)) there ∙ ap (cons_option (unit_on (kind_of t e))) rest ∙ either_unit (e.item == 0) t e.tail e.head e.item e.form (content_of path)
 
 -- weights along a path

@@ -1,6 +1,6 @@
 -- Units that are taken out of the counts of a bin.
 use Rattle.std.proofs.Common.{◌≡◌, ◌≢◌, ℕ, ◌+◌, ◌-◌, ◌*◌, ◌<◌, ◌≤◌, Bool, true, false, cond, ◌==◌, List, [], ◌∷◌, ◌++◌, length, get_or, set, take, take_all, refl, sym, ap, ◌∙◌, subst, ⊎_elim, arith, All}
-use Rattle.std.specs.Prelude.{sum_by}
+use Rattle.std.specs.Prelude.{sum_by, ◌&&◌}
 use Rattle.std.proofs.lemmas.Bool.{cases_eq, eq-eqb, ne_eqb}
 use Rattle.std.proofs.lemmas.List.{get_or-set_same, get_or-set_other, get_or_default}
 use Rattle.std.proofs.lemmas.List.Sums.{sum_by-cons, sum_by-append, sum_by_more}
@@ -8,9 +8,10 @@ use Rattle.std.proofs.lemmas.List.Elements.{All-nil, All-cons, All-append, All-w
 use Rattle.std.proofs.Math.Nat.{mul-le-mul_right}
 use Rattle.packing_laws.specs.declared.packings.Count.{Count}
 use Rattle.packing_laws.specs.Instances.{InstanceValue, IsAmong, form_at}
-use Rattle.packing_laws.specs.Packings.{Content, Exists, count_of_item, weight_in}
+use Rattle.packing_laws.specs.Packings.{Content, Exists, KeepsCaps, count_of_item, count_of_form, weight_in}
+use Rattle.packing_laws.specs.declared.instances.ItemCap.{ItemCap}
 use Rattle.std.specs.Prelude.{slice_index}
-use Rattle.pattern_extract.specs.Trims.{surplus_at, rest_of, IsReduced}
+use Rattle.pattern_extract.specs.Trims.{surplus_at, rest_of, IsBelow, IsReduced}
 
 -- what counts weigh, where units of each form have a weight
 abbrev pub weigh_counts : (ℕ → ℕ → ℕ) → Content → ℕ
@@ -149,10 +150,49 @@ reduced-next times n old new before after m taken less more sofar within is coun
     subst (λ (x : ℕ). IsReducedSoFar times (n + 1) old more before (set after (m.item - 1) (surplus_at after m.item - x))) (sym less-is)
     (subst (λ (c : Content). IsReducedSoFar times (n + 1) old c before (set after (m.item - 1) (surplus_at after m.item - taken * times))) (sym more-is) next)
 
+-- units of one form, as a weight
+form-weight : (i f : ℕ) (c : Content) → weigh_counts (λ j h. cond ((j == i) && (h == f)) 1 0) c ≡ count_of_form i f c
+form-weight i f [] = refl
+form-weight i f (n ∷ c) =
+    let rest = form-weight i f c in
+    let first = count-weight ((n.item == i) && (n.form == f)) n.count in
+    let one = sum_by-cons (λ (m : Count). m.count * cond ((m.item == i) && (m.form == f)) 1 0) n c in
+    let two = sum_by-cons (λ (m : Count). cond ((m.item == i) && (m.form == f)) m.count 0) n c in
+    omega (arith, rest, first, one, two)
+
+-- units of one item, as a weight
+item-weight : (i : ℕ) (c : Content) → weigh_counts (λ j h. cond (j == i) 1 0) c ≡ count_of_item i c
+item-weight i [] = refl
+item-weight i (n ∷ c) =
+    let rest = item-weight i c in
+    let first = count-weight (n.item == i) n.count in
+    let one = sum_by-cons (λ (m : Count). m.count * cond (m.item == i) 1 0) n c in
+    let two = sum_by-cons (λ (m : Count). cond (m.item == i) m.count 0) n c in
+    omega (arith, rest, first, one, two)
+
+-- what weighs no more under any weights keeps the caps too
+caps-kept : (I : InstanceValue) (new old : Content) → ((w : ℕ → ℕ → ℕ) → weigh_counts w new ≤ weigh_counts w old) → KeepsCaps I old → KeepsCaps I new
+caps-kept I new old less kept =
+    All-weaker (λ (k : ItemCap). count_of_item k.item old ≤ k.count) (λ (k : ItemCap). count_of_item k.item new ≤ k.count)
+    (λ k most.
+    let all = less (λ j h. cond (j == k.item) 1 0) in
+    let one = item-weight k.item new in
+    let two = item-weight k.item old in
+    omega (arith, all, one, two, most))
+    I.caps kept
+
+below-all : (new old : Content) → ((w : ℕ → ℕ → ℕ) → weigh_counts w new ≤ weigh_counts w old) → IsBelow new old
+below-all new old less i f =
+    let all = less (λ j h. cond ((j == i) && (h == f)) 1 0) in
+    let one = form-weight i f new in
+    let two = form-weight i f old in
+    omega (arith, all, one, two)
+
 pub reduced-all : (times n : ℕ) (old new : Content) (before after : List ℕ) → length old ≤ n → IsReducedSoFar times n old new before after → IsReduced times old new before after
 reduced-all times n old new before after end sofar =
     let whole : take n old ≡ old = take_all n old end in
     record {
+      below = below-all new old (subst (λ (c : Content). (w : ℕ → ℕ → ℕ) → weigh_counts w new ≤ weigh_counts w c) whole sofar.weight);
       fits = λ I t fits. record {
         bin_type = fits.bin_type;
         exists = sofar.exists I fits.exists;
@@ -161,6 +201,7 @@ reduced-all times n old new before after end sofar =
             let same : weight_in I d (take n old) ≡ weight_in I d old = ap (weight_in I d) whole in
             let most = fits.weight d dim in
             omega (arith, less, same, most);
+        caps = caps-kept I new old (subst (λ (c : Content). (w : ℕ → ℕ → ℕ) → weigh_counts w new ≤ weigh_counts w c) whole sofar.weight) fits.caps;
       };
       items = sofar.items;
       units = subst (λ (c : Content). (i : ℕ) → 1 ≤ i → times * count_of_item i c + surplus_at after i ≡ times * count_of_item i new + surplus_at before i) whole sofar.units;

@@ -8,7 +8,7 @@ use Rattle.std.proofs.lemmas.List.Elements.{All-head, All-tail}
 use Rattle.flow_graph.specs.Arcs.{TypeValue, IsFlowGraph}
 use Rattle.pattern_extract.specs.declared.runs.PathRun.{PathRun}
 use Rattle.pattern_extract.specs.Runs.{IsRun, goes_over, times_over, AreRunsOf}
-use Rattle.pattern_extract.specs.Walks.{weight_along, circuit_of, runs_weight, HoldAll}
+use Rattle.pattern_extract.specs.inner.Walks.{weight_along, circuit_of, runs_weight, HoldAll}
 use Rattle.pattern_extract.proofs.Weights.{weigh-one}
 use Rattle.pattern_extract.proofs.Apart.{circuit-apart, circuit-within}
 

@@ -1,6 +1,7 @@
 -- Walks, arc by arc.
-use Rattle.std.proofs.Common.{◌≡◌, ◌≢◌, ℕ, suc, ◌+◌, ◌-◌, ◌*◌, ◌<◌, ◌≤◌, Bool, true, false, cond, ◌==◌, List, [], ◌∷◌, ◌++◌, length, get_or, min, refl, sym, ap, ◌∙◌, subst, arith, All}
-use Rattle.std.specs.Prelude.{Some, slice_get}
+use Rattle.std.proofs.Common.{◌≡◌, ◌≢◌, ℕ, suc, ◌+◌, ◌-◌, ◌*◌, ◌<◌, ◌≤◌, Bool, true, false, cond, ◌==◌, List, [], ◌∷◌, ◌++◌, length, get_or, min, inl, inr, refl, sym, ap, ◌∙◌, subst, arith, All}
+use Rattle.std.specs.Prelude.{◌||◌, ◌⊎◌, Some, slice_get}
+use Rattle.std.specs.List.{list_any}
 use Rattle.std.proofs.lemmas.Bool.{and_parts, and_from, eqb-true, eq-eqb}
 use Rattle.std.proofs.lemmas.Option.{slice_get-get_or}
 use Rattle.std.proofs.lemmas.List.Elements.{Contains-get_or, All-nil, All-push, All-weaker, All-cons}
@@ -12,11 +13,13 @@ use Rattle.flow_graph.specs.Arcs.{TypeValue, IsFlowGraph, flow_type, kind_of, nu
 use Rattle.flow_graph.specs.Faithful.{AreNumbersOf}
 use Rattle.flow_graph.proofs.Places.{arc_at-suc, has_numbers}
 use Rattle.flow_graph.proofs.Ways.{IsPath-append}
-use Rattle.flow_model.specs.Flows.{comes_in, goes_out, IsConserved}
+use Rattle.flow_graph.specs.Ends.{comes_in, goes_out}
+use Rattle.flow_model.specs.Flows.{IsConserved}
 use Rattle.pattern_extract.specs.Runs.{IsRun}
-use Rattle.pattern_extract.specs.Walks.{weigh, circuit_of, IsRoute, goes_on, head_of, IsWayOn}
+use Rattle.pattern_extract.specs.inner.Walks.{weigh, circuit_of, IsRoute, goes_on, head_of, IsWayOn, IsUsedUp}
 use Rattle.pattern_extract.proofs.Weights.{weigh-part, weigh-some, weigh_arcs-weigh}
-use Rattle.pattern_extract.proofs.Places.{place_weight, one_if, place_weight-at, comes_in-kind, head_of-kind, arc_from, type_is, climbs_at, nothing}
+use Rattle.flow_graph.proofs.ArcKinds.{comes_kind, type_is, nothing}
+use Rattle.pattern_extract.proofs.Places.{place_weight, one_if, place_weight-at, head_of-kind, arc_from, climbs_at}
 
 -- what comes into node v of type t
 abbrev pub coming : List TypeValue → List ℕ → ℕ → ℕ → ℕ
@@ -115,6 +118,48 @@ route-more g left t node k arcs way route =
       numbers-append g t arcs ((k + 1) ∷ []) route.0 (arc ∷ []) route.2 (number, tt),
     )
 
+any-more : (a : ℕ) (ns : List ℕ) (n : ℕ) → list_any (λ m. m == a) (ns ++ n ∷ []) ≡ (list_any (λ m. m == a) ns || (n == a))
+any-more a [] n = by (n == a)
+  where
+    by : (b : Bool) → (b || false) ≡ b
+    by true = refl
+    by false = refl
+any-more a (m ∷ ns) n = by (m == a) (any-more a ns n)
+  where
+    by : (b : Bool) → list_any (λ m. m == a) (ns ++ n ∷ []) ≡ (list_any (λ m. m == a) ns || (n == a)) → (b || list_any (λ m. m == a) (ns ++ n ∷ [])) ≡ ((b || list_any (λ m. m == a) ns) || (n == a))
+    by true h = refl
+    by false h = h
+
+or-right : (a b : Bool) → b ≡ true → (a || b) ≡ true
+or-right true b h = refl
+or-right false b h = h
+
+either-least : (a b c : ℕ) → c ≡ min a b → (c ≡ a) ⊎ (c ≡ b)
+either-least a b c h = grind arith
+
+-- at the start nothing would be left on the bin arc
+pub used-start : (left : List ℕ) (a : ℕ) → IsUsedUp left (get_or left (a - 1) 0) (a ∷ [])
+used-start left a = record { arc = a; among = ap (λ (b : Bool). b || false) (eq-eqb a a refl); all = refl }
+
+-- one more arc, with the least of what is left
+pub used-more : (left : List ℕ) (times k more : ℕ) (ns : List ℕ) → more ≡ min times (get_or left k 0) → IsUsedUp left times ns → IsUsedUp left more (ns ++ (k + 1) ∷ [])
+used-more left times k more ns least used = by (either-least times (get_or left k 0) more least)
+  where
+    by : (more ≡ times) ⊎ (more ≡ get_or left k 0) → IsUsedUp left more (ns ++ (k + 1) ∷ [])
+    by (inl same) = record {
+      arc = used.arc;
+      among = any-more used.arc ns (k + 1) ∙ ap (λ (b : Bool). b || (k + 1 == used.arc)) used.among;
+      all = used.all ∙ sym same;
+    }
+    by (inr here) = record {
+      arc = k + 1;
+      among = any-more (k + 1) ns (k + 1) ∙ or-right (list_any (λ m. m == k + 1) ns) (k + 1 == k + 1) (eq-eqb (k + 1) (k + 1) refl);
+      all = ap (λ (n : ℕ). get_or left n 0) place ∙ sym here;
+    }
+      where
+        place : k + 1 - 1 ≡ k
+        place = omega arith
+
 pub walk-more : (g : List TypeValue) (left : List ℕ) (t node times k more : ℕ) (arcs : List ℕ) (way : IsWayOn (numbered g) left t node k) → IsFlowGraph g → IsWalked g left t node times arcs → more ≡ min times (get_or left k 0) → IsWalked g left t (head_of way.kind) more (arcs ++ (k + 1) ∷ [])
 walk-more g left t node times k more arcs way is walked least =
     let from = arc_from g t node k way.kind way.there way.goes in
@@ -126,7 +171,7 @@ walk-more g left t node times k more arcs way is walked least =
     let place : k + 1 - 1 ≡ k = omega arith in
     let here : more ≤ get_or left (k + 1 - 1) 0 = rw place (omega (arith, least)) in
     let comes : comes_in t (head_of way.kind) way.kind ≡ true =
-    ap (λ (z : ArcKind). comes_in t (head_of z) z) from.same ∙ ap (λ (n : ℕ). comes_in t n (kind_of t arc)) (head_of-kind t arc) ∙ comes_in-kind t t arc.head arc ∙ and_from (t == t) (arc.head == arc.head) (eq-eqb t t refl) (eq-eqb arc.head arc.head refl) in
+    ap (λ (z : ArcKind). comes_in t (head_of z) z) from.same ∙ ap (λ (n : ℕ). comes_in t n (kind_of t arc)) (head_of-kind t arc) ∙ comes_kind t arc.head t arc ∙ and_from (t == t) (arc.head == arc.head) (eq-eqb t t refl) (eq-eqb arc.head arc.head refl) in
     record {
       route = route-more g left t node k arcs way walked.route;
       low = let low = walked.low in omega (arith, low, up.0);

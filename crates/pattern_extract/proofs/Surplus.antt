@@ -4,9 +4,10 @@ use Rattle.std.specs.Prelude.{Option, Some, None}
 use Rattle.std.proofs.lemmas.Bool.{cases_lt, cases_eq, eq-eqb}
 use Rattle.std.proofs.lemmas.List.{get_or_past, get_or-map, drop_more, drop_all, get_or-set_same, get_or-set_other}
 use Rattle.std.proofs.lemmas.List.Sums.{sum_by-le}
-use Rattle.std.proofs.lemmas.List.Elements.{All-contains, Contains-get_or}
+use Rattle.std.proofs.lemmas.List.Elements.{All-contains}
 use Rattle.std.proofs.lemmas.Option.{slice_get-get_or}
 use Rattle.std.proofs.Math.Nat.{mul-le-mul_right}
+use Rattle.arc_num.specs.declared.TheConstants.{MAX_ITEMS, MAX_DEMAND, MAX_UNITS, MAX_NUMBERED}
 use Rattle.packing_laws.specs.declared.instances.Item.{Item}
 use Rattle.packing_laws.specs.Instances.{InstanceValue, IsInstance, IsAmong, item_at, units_of, type_at}
 use Rattle.packing_laws.specs.Packings.{Exists}
@@ -18,11 +19,13 @@ use Rattle.flow_graph.specs.Faithful.{GraphOf, unit_of}
 use Rattle.flow_graph.proofs.Numbers.{few_numbered}
 use Rattle.flow_model.specs.Boxes.{limited, upper_of, root_range, root_ranges}
 use Rattle.flow_model.specs.Flows.{IsFlow, carries, weigh_arcs}
-use Rattle.pattern_extract.specs.Walks.{weigh}
+use Rattle.pattern_extract.specs.inner.Walks.{weigh}
 use Rattle.pattern_extract.specs.Trims.{surplus_at}
 use Rattle.pattern_extract.specs.Extracts.{NamesItem}
 use Rattle.pattern_extract.proofs.Weights.{weigh_arcs-weigh}
-use Rattle.pattern_extract.proofs.Places.{place_weight, one_if, nothing, IsPlaced, is_bin, is_arc, kind_there}
+use Rattle.flow_graph.specs.Laws.{IsKindAt, is_bin, is_arc}
+use Rattle.flow_graph.proofs.ArcKinds.{among_list}
+use Rattle.pattern_extract.proofs.Places.{place_weight, one_if, kind_there}
 
 limited-most : (n : ℕ) (limit : Option ℕ) → limited n limit ≤ n
 limited-most n None = omega arith
@@ -33,10 +36,10 @@ upper-most I (Bin t) = limited-most (units_of I) (type_at I t).limit
 upper-most I (Loss t tail head) = omega arith
 upper-most I (Piece t tail head item form) = omega arith
 
-units-small : (I : InstanceValue) → IsInstance I → units_of I ≤ 1000000000
+units-small : (I : InstanceValue) → IsInstance I → units_of I ≤ MAX_UNITS
 units-small I is =
-    let most = sum_by-le (λ (x : Item). x.demand) 1000000 I.items (λ k d within. (is.items k d within).demand) in
-    let few : length I.items * 1000000 ≤ 1000 * 1000000 = mul-le-mul_right 1000000 is.item_count in
+    let most = sum_by-le (λ (x : Item). x.demand) MAX_DEMAND I.items (λ k d within. (is.items k d within).demand) in
+    let few : length I.items * MAX_DEMAND ≤ MAX_ITEMS * MAX_DEMAND = mul-le-mul_right MAX_DEMAND is.item_count in
     omega (arith, most, few)
 
 -- the value of an arc is at most its upper bound
@@ -48,7 +51,7 @@ value-most I g values flow k within =
     let range = get_or-map (root_range I) (numbered g) k (Bin 0) (0, 0) within in
     subst (λ (r : ℕ × ℕ). get_or values k 0 ≤ r.1) range here
 
-pub value-small : (I : InstanceValue) (g : List TypeValue) (values : List ℕ) → IsInstance I → IsFlow I g values → (k : ℕ) → get_or values k 0 ≤ 1000000000
+pub value-small : (I : InstanceValue) (g : List TypeValue) (values : List ℕ) → IsInstance I → IsFlow I g values → (k : ℕ) → get_or values k 0 ≤ MAX_UNITS
 value-small I g values is flow k =
     ⊎_elim
     (λ within.
@@ -82,11 +85,11 @@ place-most test (kind ∷ kinds) (suc k) = place-most test kinds k
 pub total-small : (I : InstanceValue) (g : List TypeValue) (values : List ℕ) (test : ArcKind → Bool) → IsInstance I → IsFlowGraph g → IsFlow I g values → weigh_arcs (one_if test) (numbered g) values < 2 ^ 64
 total-small I g values test is graph flow =
     let same = weigh_arcs-weigh (one_if test) (numbered g) values in
-    let most = weigh-most 1000000000 (place_weight (one_if test) g) values (place-most test (numbered g)) (value-small I g values is flow) in
+    let most = weigh-most MAX_UNITS (place_weight (one_if test) g) values (place-most test (numbered g)) (value-small I g values is flow) in
     let few = few_numbered g graph in
     let size = flow.size in
-    let short : length values ≤ 1000064 = omega (arith, few, size) in
-    let bound : length values * 1000000000 ≤ 1000064 * 1000000000 = mul-le-mul_right 1000000000 short in
+    let short : length values ≤ MAX_NUMBERED = omega (arith, few, size) in
+    let bound : length values * MAX_UNITS ≤ MAX_NUMBERED * MAX_UNITS = mul-le-mul_right MAX_UNITS short in
     omega (arith, same, most, bound)
 
 -- the arcs carry items that exist
@@ -94,12 +97,11 @@ either_names : (m : ℕ) (b : Bool) (t tail head item form : ℕ) → ((item ≡
 either_names m true t tail head item form some is = tt
 either_names m false t tail head item form some is = some (λ e. let bad : false ≡ true = is ∙ eq-eqb item 0 e in cc)
 
-item-named : (I : InstanceValue) (g : List TypeValue) (k : ℕ) (kind : ArcKind) → GraphOf I g → IsPlaced g k kind → NamesItem (length I.items) kind
+item-named : (I : InstanceValue) (g : List TypeValue) (k : ℕ) (kind : ArcKind) → GraphOf I g → IsKindAt g (suc k) kind → NamesItem (length I.items) kind
 item-named I g k kind of (is_bin t among place same) = subst (NamesItem (length I.items)) (sym same) tt
-item-named I g k kind of (is_arc t among j within place same) =
-    let e : TypeArc = get_or (flow_type g t).arcs j nothing in
+item-named I g k kind of (is_arc t among j e at place same) =
     let own = of.exists (t - 1) (record { nodes = 1; arcs = [] }) (omega (arith, among.0, among.1)) in
-    let exists : 1 ≤ e.item → Exists I (unit_of e) = All-contains (λ (f : TypeArc). 1 ≤ f.item → Exists I (unit_of f)) (flow_type g t).arcs e own (Contains-get_or (flow_type g t).arcs j nothing within) in
+    let exists : 1 ≤ e.item → Exists I (unit_of e) = All-contains (λ (f : TypeArc). 1 ≤ f.item → Exists I (unit_of f)) (flow_type g t).arcs e own (among_list (flow_type g t).arcs j e at) in
     subst (NamesItem (length I.items)) (sym same) (either_names (length I.items) (e.item == 0) t e.tail e.head e.item e.form (λ some. (exists (omega (arith, some))).item) refl)
 
 pub items-named : (I : InstanceValue) (g : List TypeValue) → GraphOf I g → All (NamesItem (length I.items)) (numbered g)

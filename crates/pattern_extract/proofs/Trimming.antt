@@ -1,14 +1,15 @@
 -- Bins that are trimmed one after the other.
 use Rattle.std.proofs.Common.{◌≡◌, ℕ, ◌+◌, ◌-◌, ◌*◌, ◌<◌, ◌≤◌, Bool, cond, ◌==◌, List, [], ◌∷◌, ◌++◌, length, get_or, take, refl, sym, ap, ◌∙◌, subst, ⊎_elim, arith, All}
 use Rattle.std.proofs.lemmas.Bool.{cases_lt, ne_eqb}
-use Rattle.std.proofs.lemmas.List.{get_or_append_left, get_or_push, length_push}
+use Rattle.std.proofs.lemmas.List.{append-nil, get_or_append_left, get_or_push, length_push}
 use Rattle.std.proofs.lemmas.List.Sums.{sum_by-cons, sum_by_push}
 use Rattle.std.proofs.lemmas.List.Elements.{All-nil, All-push, All-weaker, All-head, All-tail, All-more}
 use Rattle.packing_laws.specs.declared.packings.Count.{Count}
 use Rattle.packing_laws.specs.declared.packings.Bin.{Bin}
 use Rattle.packing_laws.specs.Instances.{InstanceValue, IsAmong, item_at}
 use Rattle.packing_laws.specs.Packings.{Content, count_of_item}
-use Rattle.pattern_extract.specs.Trims.{held, surplus_at, refilled, IsReduced, IsUsedBin, IsLean, AreTrimmed, IsTrimmedOn, MeetDemands}
+use Rattle.pattern_extract.specs.Trims.{held, surplus_at, refilled, IsReduced, IsUsedBin, IsLean, AreParts, AreTrimmed, IsTrimmedOn, MeetDemands}
+use Rattle.pattern_extract.proofs.Parts.{parts-own, parts-done, parts-split}
 
 all-front : {X : Type 0} (P : X → Type 0) (xs : List X) (x : X) → All P (xs ++ x ∷ []) → All P xs
 all-front P xs x all k d within =
@@ -51,6 +52,7 @@ module _ (I : InstanceValue) (given pending done : List Bin) (before after : Lis
         let pushed = sum_by_push (λ (c : Bin). c.times * w c.bin_type) pending b in
         let more = sum_by_push (λ (c : Bin). c.times * w c.bin_type) done (refilled b b.times kept) in
         omega (arith, all, pushed, more);
+    parts = parts-done given pending done b kept reduced.below trimmed.parts;
     units = λ i among.
         let all = counted i among in
         let more = sum_by_push (λ (c : Bin). c.times * count_of_item i c.counts) done (refilled b b.times kept) in
@@ -78,6 +80,7 @@ module _ (I : InstanceValue) (given pending done : List Bin) (before after : Lis
         let two = sum_by_push (λ (c : Bin). c.times * w c.bin_type) (pending ++ refilled b (b.times - s) kept ∷ []) (refilled b s kept) in
         let both = parts s (w b.bin_type) less in
         omega (arith, all, pushed, one, two, both);
+    parts = parts-split given pending done b kept reduced.below s less trimmed.parts;
     units = λ i among.
         let all = counted i among in
         let one = sum_by_push (λ (c : Bin). c.times * count_of_item i c.counts) pending (refilled b (b.times - s) kept) in
@@ -105,6 +108,7 @@ trimmed-none I bins surplus size each units = record {
   ready = All-nil (IsUsedBin I);
   lean = All-nil (IsLean surplus);
   types = λ w. omega arith;
+  parts = subst (AreParts bins) (sym (append-nil bins)) (parts-own bins);
   units = λ i among. let all = units i among in omega (arith, all);
 }
 
@@ -131,6 +135,7 @@ pub trimmed-all : (I : InstanceValue) (given done : List Bin) (surplus : List �
 trimmed-all I given done surplus trimmed = record {
   each = trimmed.ready;
   types = λ w. let all = trimmed.types w in omega (arith, all);
+  parts = trimmed.parts;
   units = λ i among.
       let all = trimmed.units i among in
       ⊎_elim

@@ -10,7 +10,7 @@ use Rattle.flow_graph.specs.Arcs.{TypeValue, IsFlowGraph, flow_type, numbered, f
 use Rattle.flow_model.proofs.BrokenRows.{each_more, none_among}
 use Rattle.pattern_extract.specs.declared.runs.PathRun.{PathRun}
 use Rattle.pattern_extract.specs.Runs.{AreConserved, IsRun}
-use Rattle.pattern_extract.specs.Walks.{weigh, weight_along, circuit_of, head_of, IsTaken, HoldAll}
+use Rattle.pattern_extract.specs.inner.Walks.{weigh, weight_along, circuit_of, head_of, IsTaken, HoldAll}
 use Rattle.pattern_extract.proofs.Weights.{weigh-none, weigh-part}
 use Rattle.pattern_extract.proofs.Steps.{IsWalked, walk-start, walk-more, walk-run, walk-most, way-on, way-up}
 use Rattle.pattern_extract.proofs.Balance.{conserved-after}

@@ -3,7 +3,7 @@ use Rattle.std.proofs.Common.{◌≡◌, ℕ, zero, suc, ◌+◌, ◌-◌, ◌*�
 use Rattle.std.proofs.lemmas.Bool.{cases_lt, cases_eq, eq-eqb, ne_eqb}
 use Rattle.flow_graph.specs.declared.parts.ArcKind.{ArcKind}
 use Rattle.flow_model.specs.Flows.{weigh_arcs}
-use Rattle.pattern_extract.specs.Walks.{weigh}
+use Rattle.pattern_extract.specs.inner.Walks.{weigh}
 
 part : (a x y z : ℕ) → z + x ≡ y → a * y ≡ a * z + x * a
 part a x y z e = rw (sym e) (omega arith)

@@ -5,7 +5,7 @@ use Rattle.packing_laws.specs.declared.packings.Bin.{Bin as Alike}
 use Rattle.packing_laws.specs.Instances.{IsAmong, item_at}
 use Rattle.packing_laws.specs.Printed.{bins_of}
 use Rattle.pattern_extract.specs.declared.runs.PathRun.{PathRun}
-use Rattle.pattern_extract.specs.Walks.{weigh}
+use Rattle.pattern_extract.specs.inner.Walks.{weigh}
 use Rattle.pattern_extract.specs.Trims.{held, IsUsedBin}
 use Rattle.pattern_extract.specs.Extracts.{bin_of}
 use Rattle.pattern_extract.specs.Worth.{FlowsArePackings}
@@ -23,5 +23,5 @@ flows_are_packings I g values instance graph faithful flow =
     let once : All (λ b. b.times ≡ 1) bins = All-map (λ b. b.times ≡ 1) (bin_of g) runs found.1.once in
     let served : (i : ℕ) → IsAmong i (length I.items) → (item_at I i).demand ≤ held i bins = λ i among. let carried = runs-carry g values runs i all in let most = flow.demands i among in omega (arith, carried, most) in
     let trimmed = unit-trims I bins used once served in
-    let made = packing-made I g values runs trimmed.0 faithful flow all trimmed.1 in
+    let made = packing-made I g values runs trimmed.0 graph faithful flow all trimmed.1 in
     record { bins = bins_of trimmed.0; packing = made.packing.packing; cost = made.cost }

@@ -1,5 +1,5 @@
 pub mod Runs
-pub mod Walks
+pub mod inner
 pub mod Trims
 pub mod Extracts
 pub mod Worth

@@ -2,14 +2,10 @@
 use Rattle.std.specs.Prelude.{◌≡◌, ℕ, ◌-◌, ◌≤◌, Bool, ◌==◌, ◌||◌, if◌then◌else◌, List, All, length, slice_index, sum_by}
 use Rattle.std.specs.List.{list_any}
 use Rattle.packing_laws.specs.Instances.{IsAmong}
-use Rattle.flow_graph.specs.Arcs.{TypeValue, flow_type, numbered, first_arc}
+use Rattle.flow_graph.specs.Arcs.{TypeValue, numbered, first_arc}
 use Rattle.flow_graph.specs.Faithful.{IsNumberedPath}
-use Rattle.flow_model.specs.Flows.{IsConserved}
+pub use Rattle.flow_model.specs.Flows.{AreConserved}
 use Rattle.pattern_extract.specs.declared.runs.PathRun.{PathRun}
-
--- what comes into each node goes out of it
-abbrev pub AreConserved : List TypeValue → List ℕ → Type 0
-AreConserved g values = (t v : ℕ) → IsAmong t (length g) → IsAmong v (flow_type g t).nodes → IsConserved g values t v
 
 -- a run: a path of a type from its source to its target, used at least once
 pub record IsRun (g : List TypeValue) (run : PathRun) : Type 0 where

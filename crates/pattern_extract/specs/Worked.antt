@@ -16,7 +16,7 @@ twice_two = record { t = 1; times = 2; arcs = 2 ∷ 5 ∷ [] }
 abbrev pub two_units : Content
 two_units = record { item = 1; form = 1; count = 1 } ∷ record { item = 1; form = 1; count = 1 } ∷ []
 
-pub record Rows : Type 0 where
+pub record Examples : Type 0 where
   pub faithful : IsFaithful three_of_one its_graph
   pub times : map (times_over its_graph (twice_two ∷ [])) (1 ∷ 2 ∷ 3 ∷ 4 ∷ 5 ∷ []) ≡ 2 ∷ 2 ∷ 0 ∷ 0 ∷ 2 ∷ []
   pub content : units_along (numbered its_graph) twice_two.arcs ≡ two_units

@@ -1,7 +1,7 @@
 //! What holds of all flows, and of a worked model. Each function is empty: a call brings its law in as a fact.
 
 ghost use Rattle.pattern_extract.specs.Worth.{FlowsArePackings};
-ghost use Rattle.pattern_extract.specs.Worked.{Rows};
+ghost use Rattle.pattern_extract.specs.Worked.{Examples};
 
 /// Each flow on a faithful graph is worth a packing that costs as much. Unlike `extract`, this wants no memory.
 pub fn flows_are_packings()
@@ -9,6 +9,6 @@ pub fn flows_are_packings()
 {}
 
 /// The worked model's graph is faithful, and a flow of it is one run.
-pub fn rows_are_worked()
-    ensures { Rows }
+pub fn examples_come_out()
+    ensures { Examples }
 {}

@@ -12,7 +12,7 @@ mod trims;
 mod walks;
 
 pub use extracts::{ExtractFault, extract};
-pub use laws::{flows_are_packings, rows_are_worked};
+pub use laws::{examples_come_out, flows_are_packings};
 pub use paths::paths_of;
 pub use runs::PathRun;
 

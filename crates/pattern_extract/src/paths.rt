@@ -1,10 +1,10 @@
 //! Flows as sums of paths.
 
-ghost use Rattle.std.specs.Prelude.{◌≡◌, ℕ, ◌-◌, ◌<◌, IfOk, All, length, slice_index};
+ghost use Rattle.std.specs.Prelude.{◌≡◌, ℕ, ◌-◌, ◌<◌, ◌≤◌, IfOk, All, length, slice_index};
 ghost use Rattle.packing_laws.specs.Instances.{IsAmong};
 ghost use Rattle.flow_graph.specs.Arcs.{numbered, first_arc};
 ghost use Rattle.pattern_extract.specs.Runs.{AreConserved, AreRunsOf, IsRun};
-ghost use Rattle.pattern_extract.specs.Walks.{AreMoved, HoldAll};
+ghost use Rattle.pattern_extract.specs.inner.Walks.{AreMoved, HoldAll};
 
 use crate::runs::PathRun;
 use crate::takings::take_run;
@@ -19,7 +19,8 @@ use std::alloc::Global;
 pub fn paths_of(alloc: Global, graph: &FlowGraph, flow: &Flow) -> Result<Vec<PathRun>, Memory>
     requires size { length flow.now.values ≡ length (numbered graph.now) }
     requires conserved { AreConserved graph.now flow.now.values }
-    ensures { IfOk result (λ runs. AreRunsOf graph.now flow.now.values runs.items) }
+    ensures runs { IfOk result (λ runs. AreRunsOf graph.now flow.now.values runs.items) }
+    ensures few { IfOk result (λ runs. length runs.items ≤ length (numbered graph.now)) }
 {
     graph.known();
     runs_of(alloc, graph, flow.values.as_slice())
@@ -33,7 +34,8 @@ pub(crate) fn runs_of(
 ) -> Result<Vec<PathRun>, Memory>
     requires size { length values.now ≡ length (numbered graph.now) }
     requires conserved { AreConserved graph.now values.now }
-    ensures { IfOk result (λ runs. HoldAll graph.now values.now runs.items) }
+    ensures runs { IfOk result (λ runs. HoldAll graph.now values.now runs.items) }
+    ensures few { IfOk result (λ runs. length runs.items ≤ length values.now) }
 {
     graph.known();
     let mut copied = Vec::from_slice(alloc, values)?;

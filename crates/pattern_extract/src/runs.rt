@@ -1,4 +1,4 @@
-use flow_model::Listed;
+use arc_num::Listed;
 
 /// A path of a type from its source to its target, and how often it is used. The arcs are those of the path in order,
 /// by number, without the bin arc.

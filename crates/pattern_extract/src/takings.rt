@@ -3,7 +3,7 @@
 ghost use Rattle.std.specs.Prelude.{◌≡◌, ◌≢◌, ◌-◌, ◌≤◌, All, AllPairs, length, slice_index};
 ghost use Rattle.flow_graph.specs.Arcs.{numbered};
 ghost use Rattle.pattern_extract.specs.Runs.{IsRun};
-ghost use Rattle.pattern_extract.specs.Walks.{IsTaken, circuit_of};
+ghost use Rattle.pattern_extract.specs.inner.Walks.{IsTaken, circuit_of};
 
 use crate::runs::PathRun;
 use crate::walks::bin_arc;

@@ -1,69 +1,15 @@
 //! Values from worked rows.
 
-ghost use Rattle.std.specs.Prelude.{◌≡◌, [], ◌∷◌, IfOk, IfSome};
-ghost use Rattle.flow_model.specs.Worked.{three_of_one, its_graph};
+ghost use Rattle.std.specs.Prelude.{◌≡◌, IfOk};
 
-use crate::{ExtractFault, extract, paths_of, rows_are_worked};
-use arc_num::Memory;
-use flow_graph::{FlowGraph, TypeArc};
-use flow_model::{Flow, FlowRow, Listed, Tally, is_flow};
-use packing_laws::{Bin, BinType, Count, Instance, Item, Numbers, Packing, Vectors, cost};
+use crate::{ExtractFault, examples_come_out, extract, paths_of};
+use arc_num::{Listed, Memory};
+use flow_model::{Flow, FlowRow, Tally, graph_of_two, is_flow, three_of_one};
+use packing_laws::{Bin, Count, Packing, cost};
 use std::alloc::Global;
 use std::test::Fail;
 
 fn needs_send<T: Send + Sync>(_value: &T) {}
-
-/// Three units of an item of weight 1, and bins of 2 for 3.
-fn three_units(alloc: Global) -> Result<Option<Instance>, Memory>
-    ensures { IfOk result (λ o. IfSome o (λ I. I ≡ three_of_one)) }
-{
-    let capacity = Numbers::new(vec![in alloc; 2]?);
-    let weight = Numbers::new(vec![in alloc; 1]?);
-    let bin_type = BinType {
-        cap: capacity,
-        cost: 3,
-        limit: None,
-    };
-    let item = Item {
-        demand: 3,
-        forms: Vectors::new(vec![in alloc; weight]?),
-    };
-    Ok(Instance::new(1, vec![in alloc; bin_type]?, vec![in alloc; item]?))
-}
-
-/// The arcs of a bin that holds at most two units.
-fn graph_of_two(alloc: Global) -> Result<FlowGraph, Memory>
-    ensures { IfOk result (λ graph. graph ≡ its_graph) }
-{
-    let mut graph = FlowGraph::new(alloc);
-    flow_model::rows_are_worked();
-    let first = TypeArc {
-        tail: 1,
-        head: 2,
-        item: 1,
-        form: 1,
-    };
-    let skip = TypeArc {
-        tail: 1,
-        head: 3,
-        item: 0,
-        form: 0,
-    };
-    let loss = TypeArc {
-        tail: 2,
-        head: 3,
-        item: 0,
-        form: 0,
-    };
-    let second = TypeArc {
-        tail: 2,
-        head: 3,
-        item: 1,
-        form: 1,
-    };
-    graph.add_type(3, &[first, skip, loss, second])?;
-    Ok(graph)
-}
 
 fn flow_of(alloc: Global, values: &[u64]) -> Result<Flow, Memory>
     ensures { IfOk result (λ flow. flow.values ≡ values.now) }
@@ -98,11 +44,11 @@ fn holds(bin: &Bin, units: usize) -> bool {
 #[test]
 fn a_flow_is_a_sum_of_runs(rt: HostRuntime) -> Result<(), Fail> {
     let alloc = rt.alloc();
-    let Some(instance) = three_units(alloc)? else {
+    let Some(instance) = three_of_one(alloc)? else {
         return Err("the numbers are those of an instance".into());
     };
     let graph = graph_of_two(alloc)?;
-    rows_are_worked();
+    examples_come_out();
     let mut tally = Tally::new(alloc, &graph)?;
     let flow = flow_of(alloc, &[2, 2, 0, 0, 2])?;
     if !is_flow(&instance, &graph, &flow, &mut tally) {
@@ -121,11 +67,11 @@ fn a_flow_is_a_sum_of_runs(rt: HostRuntime) -> Result<(), Fail> {
 #[test]
 fn surplus_units_are_trimmed(rt: HostRuntime) -> Result<(), Fail> {
     let alloc = rt.alloc();
-    let Some(instance) = three_units(alloc)? else {
+    let Some(instance) = three_of_one(alloc)? else {
         return Err("the numbers are those of an instance".into());
     };
     let graph = graph_of_two(alloc)?;
-    rows_are_worked();
+    examples_come_out();
     let flow = flow_of(alloc, &[2, 2, 0, 0, 2])?;
     let packing = extract(alloc, &instance, &graph, &flow)?;
     assert_eq!(rt; cost(&instance, &packing), 6);
@@ -136,11 +82,11 @@ fn surplus_units_are_trimmed(rt: HostRuntime) -> Result<(), Fail> {
 #[test]
 fn empty_bins_are_kept(rt: HostRuntime) -> Result<(), Fail> {
     let alloc = rt.alloc();
-    let Some(instance) = three_units(alloc)? else {
+    let Some(instance) = three_of_one(alloc)? else {
         return Err("the numbers are those of an instance".into());
     };
     let graph = graph_of_two(alloc)?;
-    rows_are_worked();
+    examples_come_out();
     let flow = flow_of(alloc, &[3, 2, 1, 0, 2])?;
     let packing = extract(alloc, &instance, &graph, &flow)?;
     assert_eq!(rt; cost(&instance, &packing), 9);
@@ -152,11 +98,11 @@ fn empty_bins_are_kept(rt: HostRuntime) -> Result<(), Fail> {
 #[test]
 fn the_first_violated_row_is_named(rt: HostRuntime) -> Result<(), Fail> {
     let alloc = rt.alloc();
-    let Some(instance) = three_units(alloc)? else {
+    let Some(instance) = three_of_one(alloc)? else {
         return Err("the numbers are those of an instance".into());
     };
     let graph = graph_of_two(alloc)?;
-    rows_are_worked();
+    examples_come_out();
     let no_way_on = flow_of(alloc, &[2, 1, 0, 0, 1])?;
     let one_bin = flow_of(alloc, &[1, 1, 0, 0, 1])?;
     let four_bins = flow_of(alloc, &[4, 4, 0, 0, 4])?;

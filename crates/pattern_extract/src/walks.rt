@@ -4,12 +4,11 @@ ghost use Rattle.std.specs.Prelude.{◌≡◌, ℕ, ◌-◌, ◌≤◌, ◌<◌,
 ghost use Rattle.packing_laws.specs.Instances.{IsAmong};
 ghost use Rattle.flow_graph.specs.Arcs.{flow_type, numbered, first_arc};
 ghost use Rattle.pattern_extract.specs.Runs.{AreConserved, IsRun};
-ghost use Rattle.pattern_extract.specs.Walks.{AreCursors, IsWayOn, circuit_of, goes_on, head_of};
+ghost use Rattle.pattern_extract.specs.inner.Walks.{AreCursors, IsUsedUp, IsWayOn, circuit_of, goes_on, head_of};
 
 use crate::runs::PathRun;
-use arc_num::Memory;
+use arc_num::{Listed, Memory};
 use flow_graph::{ArcKind, FlowGraph, TypeArc};
-use flow_model::Listed;
 use std::alloc::Global;
 
 /// A run over the first way on from each node, as often as there is something left on all of its arcs.
@@ -29,6 +28,7 @@ pub(crate) fn walk(
     ensures run { IfOk result (λ run. IsRun graph.now run) }
     ensures of_type { IfOk result (λ run. run.t ≡ t) }
     ensures left { IfOk result (λ run. All (λ a. run.times ≤ slice_index left.now (a - 1)) (circuit_of graph.now run)) }
+    ensures used { IfOk result (λ run. IsUsedUp left.now run.times (circuit_of graph.now run)) }
     ensures cursors { AreCursors graph.now t left.now cursors.new }
 {
     graph.known();

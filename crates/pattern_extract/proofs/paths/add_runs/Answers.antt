@@ -1,7 +1,7 @@
 use Rattle.std.proofs.Common.{◌≡◌, ◌-◌, ◌<◌, List, ℕ, length, get_or, sym, ap, subst, ◌∙◌, arith}
 use Rattle.flow_graph.specs.Arcs.{first_arc}
 use Rattle.pattern_extract.specs.declared.runs.PathRun.{PathRun}
-use Rattle.pattern_extract.specs.Walks.{AreMoved, AreCursors, circuit_of}
+use Rattle.pattern_extract.specs.inner.Walks.{AreMoved, AreCursors, circuit_of}
 use Rattle.pattern_extract.proofs.Moves.{moved-none, moved-run, taken-falls, taken-less, bin-inside}
 use Rattle.pattern_extract.proofs.Cursors.{cursors-falls}
 use Rattle.pattern_extract.proofs.paths.add_runs.Goals as goal
@@ -42,7 +42,7 @@ loop-left-preserved c =
     let run = c.in_ok-run.run' in
     let left = c.loop-left.left in
     let rest = c.take_run.new.left in
-    let moved = moved-run g c.args.left.now left rest c.args.runs.now.items c.loop-left.runs.items run c.loop-left.invariant.moved c.in_ok-run.ensures.run c.take_run.ensures in
+    let moved = moved-run g c.args.left.now left rest c.args.runs.now.items c.loop-left.runs.items run c.loop-left.invariant.moved c.in_ok-run.ensures.run c.in_ok-run.ensures.used c.take_run.ensures in
     record {
       nodes = c.walk.auto.cursors ∙ c.loop-left.invariant.nodes;
       cursors = cursors-falls g t left rest c.walk.new.cursors (taken-falls left rest run.times (circuit_of g run) c.take_run.ensures) c.in_ok-run.ensures.cursors;

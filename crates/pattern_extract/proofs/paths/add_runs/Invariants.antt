@@ -1,6 +1,6 @@
 use Rattle.std.proofs.Common.{◌≡◌, length, get_or}
 use Rattle.flow_graph.specs.Arcs.{flow_type}
-use Rattle.pattern_extract.specs.Walks.{AreCursors, AreMoved}
+use Rattle.pattern_extract.specs.inner.Walks.{AreCursors, AreMoved}
 use Rattle.pattern_extract.proofs.paths.add_runs.Given as goal
 
 abbrev pub invariant-loop-left : goal.invariant-loop-left

@@ -3,8 +3,8 @@ use Rattle.std.proofs.lemmas.List.Elements.{All-nil}
 use Rattle.flow_graph.specs.Arcs.{numbered}
 use Rattle.pattern_extract.specs.declared.runs.PathRun.{PathRun}
 use Rattle.pattern_extract.specs.Runs.{IsRun}
-use Rattle.pattern_extract.specs.Walks.{AreMoved}
-use Rattle.pattern_extract.proofs.Moves.{moved-none, moved-all}
+use Rattle.pattern_extract.specs.inner.Walks.{AreMoved}
+use Rattle.pattern_extract.proofs.Moves.{moved-none, moved-all, few-runs}
 use Rattle.pattern_extract.proofs.paths.runs_of.Goals as goal
 
 pub loop-t-init : goal.loop-t-init
@@ -18,8 +18,11 @@ loop-t-init c =
       bins = λ s among early. absurd (omega (arith, among.0, early));
     }
 
-pub returns : goal.returns
-returns c =
+pub returns-clause-few : goal.returns-clause-few
+returns-clause-few c = few-runs c.args.graph.now c.args.values.now c.loop-t.left c.loop-t.runs.items c.loop-t.invariant.moved
+
+pub returns-clause-runs : goal.returns-clause-runs
+returns-clause-runs c =
     let g = c.args.graph.now in
     let size : length c.loop-t.left ≡ length (numbered g) =
     c.loop-t.auto.left ∙ ap (length {A = ℕ}) (c.as_mut_slice-left.ensures.value ∙ c.in_ok-copied.ensures.items) ∙ c.requires.size in

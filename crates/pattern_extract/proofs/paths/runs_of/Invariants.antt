@@ -1,7 +1,7 @@
 use Rattle.std.proofs.Common.{◌≡◌, ◌-◌, ◌<◌, ℕ, [], length, get_or}
 use Rattle.packing_laws.specs.Instances.{IsAmong}
 use Rattle.flow_graph.specs.Arcs.{first_arc}
-use Rattle.pattern_extract.specs.Walks.{AreMoved}
+use Rattle.pattern_extract.specs.inner.Walks.{AreMoved}
 use Rattle.pattern_extract.proofs.paths.runs_of.Given as goal
 
 abbrev pub invariant-loop-t : goal.invariant-loop-t

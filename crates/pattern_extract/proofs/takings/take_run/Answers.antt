@@ -1,7 +1,7 @@
 use Rattle.std.proofs.Common.{◌≡◌, ◌≢◌, ◌-◌, ◌<◌, ◌≤◌, ℕ, List, All, length, get_or, set, ap, sym, subst}
 use Rattle.std.specs.Prelude.{AllPairs}
 use Rattle.flow_graph.specs.Arcs.{first_arc}
-use Rattle.pattern_extract.specs.Walks.{IsTaken}
+use Rattle.pattern_extract.specs.inner.Walks.{IsTaken}
 use Rattle.pattern_extract.proofs.Moves.{bin-within, bin-most, path-apart, path-there, taken-both}
 use Rattle.pattern_extract.proofs.takings.take_run.Goals as goal
 

@@ -1,8 +1,13 @@
-use Rattle.std.proofs.Common.{◌≡◌, ◌-◌, ◌∙◌, ℕ, List, [], ◌++◌, take, ap, subst}
+use Rattle.std.proofs.Common.{◌≡◌, ◌-◌, ◌∙◌, ℕ, List, [], ◌++◌, take, sym, ap, subst}
 use Rattle.packing_laws.specs.declared.packings.Bin.{Bin}
 use Rattle.pattern_extract.specs.Trims.{AreTrimmed}
-use Rattle.pattern_extract.proofs.Trimming.{trimmed-all}
+use Rattle.pattern_extract.proofs.Trimming.{trimmed-none, trimmed-all}
 use Rattle.pattern_extract.proofs.trims.trim.Goals as goal
+
+pub loop-bin-init : goal.loop-bin-init
+loop-bin-init c =
+    subst (λ (done : List Bin). AreTrimmed c.args.instance.now c.args.bins.items c.args.bins.items done c.args.surplus.now) (sym c.new-done.ensures.items)
+    (trimmed-none c.args.instance.now c.args.bins.items c.args.surplus.now c.requires.size c.requires.bins c.requires.units)
 
 pub loop-bin-preserved : goal.loop-bin-preserved
 loop-bin-preserved c =

@@ -1,6 +1,6 @@
 use Rattle.std.proofs.Common.{List, sym, subst}
 use Rattle.flow_graph.specs.declared.parts.ArcKind.{ArcKind}
-use Rattle.pattern_extract.specs.Walks.{IsWayOn}
+use Rattle.pattern_extract.specs.inner.Walks.{IsWayOn}
 use Rattle.pattern_extract.proofs.Cursors.{cursors-set}
 use Rattle.pattern_extract.proofs.walks.advance.Goals as goal
 

@@ -1,5 +1,5 @@
 use Rattle.std.proofs.Common.{ℕ, ◌<◌, ◌≤◌}
-use Rattle.pattern_extract.specs.Walks.{IsWayOn}
+use Rattle.pattern_extract.specs.inner.Walks.{IsWayOn}
 use Rattle.pattern_extract.proofs.walks.next_way.Given as goal
 
 abbrev pub invariant-loop-place : goal.invariant-loop-place

@@ -1,11 +1,11 @@
-use Rattle.std.proofs.Common.{◌≡◌, ℕ, List, ◌<◌, ◌-◌, length, get_or, arith, sym, ap, subst, ◌∙◌}
+use Rattle.std.proofs.Common.{◌≡◌, ℕ, List, ◌<◌, ◌-◌, ◌∷◌, length, get_or, arith, sym, ap, subst, ◌∙◌}
 use Rattle.flow_graph.specs.declared.parts.ArcKind.{ArcKind}
 use Rattle.flow_graph.specs.declared.parts.ArcKind.TheVariants.{Bin}
 use Rattle.flow_graph.specs.Arcs.{flow_type, numbered, first_arc}
 use Rattle.flow_graph.proofs.Numbers.{few_numbered}
-use Rattle.pattern_extract.specs.Walks.{head_of}
+use Rattle.pattern_extract.specs.inner.Walks.{head_of, IsUsedUp}
 use Rattle.pattern_extract.proofs.Cursors.{way-kind, way-within}
-use Rattle.pattern_extract.proofs.Steps.{IsWalked, walk-start, walk-more, way-on, way-up}
+use Rattle.pattern_extract.proofs.Steps.{IsWalked, walk-start, walk-more, way-on, way-up, used-start, used-more}
 use Rattle.pattern_extract.proofs.walks.walk.Goals as goal
 
 pub loop-node-init : goal.loop-node-init
@@ -17,6 +17,8 @@ loop-node-init c =
     let empty = subst (λ (arcs : List ℕ). IsWalked g left t 1 (get_or left (first_arc g t - 1) 0) arcs) (sym c.new-arcs.ensures.items) first in
     record {
       walked = subst (λ (a : ℕ). IsWalked g left t 1 (get_or left (a - 1) 0) c.new-arcs.result.items) (sym c.bin_arc.ensures) empty;
+      used = subst (λ (a : ℕ). IsUsedUp left (get_or left (a - 1) 0) (first_arc g t ∷ c.new-arcs.result.items)) (sym c.bin_arc.ensures)
+          (subst (λ (arcs : List ℕ). IsUsedUp left (get_or left (first_arc g t - 1) 0) (first_arc g t ∷ arcs)) (sym c.new-arcs.ensures.items) (used-start left (first_arc g t)));
       cursors = c.requires.cursors;
     }
 
@@ -65,5 +67,7 @@ loop-node-preserved c =
     let pushed = subst (λ (arcs : List ℕ). IsWalked g left t (head_of way.kind) c.min-times.result arcs) (sym c.in_ok-push.ensures.items) walked in
     record {
       walked = subst (λ (v : ℕ). IsWalked g left t v c.min-times.result c.push.new.self.items) (sym head) pushed;
+      used = subst (λ (arcs : List ℕ). IsUsedUp left c.min-times.result (first_arc g t ∷ arcs)) (sym c.in_ok-push.ensures.items)
+          (used-more left c.loop-node.times k c.min-times.result (first_arc g t ∷ c.loop-node.arcs.items) c.min-times.ensures c.loop-node.invariant.used);
       cursors = c.advance-place.ensures.cursors;
     }

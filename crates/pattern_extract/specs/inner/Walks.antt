@@ -1,17 +1,14 @@
 -- Walks over arcs on which something is left, and sums over arcs under any weights. Places of arcs count from 0.
-use Rattle.std.specs.Prelude.{◌≡◌, ℕ, suc, ◌+◌, ◌-◌, ◌*◌, ◌<◌, ◌≤◌, Bool, true, false, ◌==◌, ◌&&◌, List, [], ◌∷◌, Some, All, sum_by, slice_get, slice_index}
+use Rattle.std.specs.Prelude.{◌≡◌, ℕ, ◌+◌, ◌-◌, ◌*◌, ◌<◌, ◌≤◌, Bool, true, false, ◌==◌, ◌&&◌, if◌then◌else◌, List, [], ◌∷◌, Some, All, length, sum_by, slice_get, slice_index}
+use Rattle.std.specs.List.{list_any}
 use Rattle.flow_graph.specs.declared.parts.TypeArc.{TypeArc}
 use Rattle.flow_graph.specs.declared.parts.ArcKind.{ArcKind}
 use Rattle.flow_graph.specs.declared.parts.ArcKind.TheVariants.{Bin, Loss, Piece}
 use Rattle.flow_graph.specs.Arcs.{TypeValue, flow_type, numbered, first_arc}
 use Rattle.flow_graph.specs.Faithful.{IsPath, AreNumbersOf}
+pub use Rattle.flow_model.specs.Sums.{weigh}
 use Rattle.pattern_extract.specs.declared.runs.PathRun.{PathRun}
 use Rattle.pattern_extract.specs.Runs.{AreConserved, IsRun}
-
--- f at the place of each value, times the value, added up
-abbrev pub weigh : (ℕ → ℕ) → List ℕ → ℕ
-weigh f [] = 0
-weigh f (x ∷ xs) = f 0 * x + weigh (λ k. f (suc k)) xs
 
 -- f at the places of the arcs with these numbers, added up
 abbrev pub weight_along : (ℕ → ℕ) → List ℕ → ℕ
@@ -56,11 +53,23 @@ pub record IsWayOn (kinds : List ArcKind) (left : List ℕ) (t v k : ℕ) : Type
 abbrev pub AreCursors : List TypeValue → ℕ → List ℕ → List ℕ → Type 0
 AreCursors g t left cursors = (v k : ℕ) → 1 ≤ v → IsWayOn (numbered g) left t v k → slice_index cursors (v - 1) ≤ k
 
+-- one of the arcs has just so many units left
+pub record IsUsedUp (left : List ℕ) (times : ℕ) (numbers : List ℕ) : Type 0 where
+  pub arc : ℕ
+  pub among : list_any (λ n. n == arc) numbers ≡ true
+  pub all : slice_index left (arc - 1) ≡ times
+
+-- on how many arcs something is left
+abbrev pub arcs_left : List ℕ → ℕ
+arcs_left [] = 0
+arcs_left (x ∷ left) = (if x == 0 then 0 else 1) + arcs_left left
+
 -- some units are moved off the arcs into runs: what was left is what is left now and what the further runs hold
 pub record AreMoved (g : List TypeValue) (left : List ℕ) (runs : List PathRun) (rest : List ℕ) (more : List PathRun) : Type 0 where
   pub each : All (IsRun g) more
   pub conserved : AreConserved g rest
   pub falls : (k : ℕ) → slice_index rest k ≤ slice_index left k
+  pub few : length more + arcs_left rest ≤ length runs + arcs_left left
   pub sums : (f : ℕ → ℕ) → weigh f left + runs_weight g f runs ≡ weigh f rest + runs_weight g f more
 
 -- the runs hold all units of the values, whatever weights the arcs have
