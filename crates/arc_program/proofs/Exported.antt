@@ -14,11 +14,11 @@ use Rattle.pattern_extract.specs.Worth.{FlowsArePackings}
 use Rattle.mps_text.specs.Laws.{WrittenIsRead}
 use Rattle.mps_text.specs.Written.{mps_text_of}
 use Rattle.mps_text.specs.Meaning.{mps_meaning}
-use Rattle.arc_compile.specs.declared.compiled.TypeSize.{TypeSize}
+use Rattle.arc_compile.specs.declared.results.TypeSize.{TypeSize}
 use Rattle.arc_compile.specs.Compiled.{AreCompiled}
 use Rattle.arc_compile.specs.Graphs.{IsSmall}
 use Rattle.arc_program.specs.declared.status.Status.TheVariants.{Done}
-use Rattle.arc_program.specs.Exports.{HasSolution, HasPacking, IsExport}
+use Rattle.arc_program.specs.commands.Export.{HasSolution, HasPacking, IsExport}
 
 module _ (I : InstanceValue) (g : List TypeValue) (known : IsInstance I) (graph : IsFlowGraph g) (faithful : IsFaithful I g) where
   -- a packing without empty bins is worth a solution

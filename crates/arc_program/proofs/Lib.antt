@@ -1,7 +1,8 @@
-pub mod ScanLemmas
-pub mod ScanSteps
+pub mod LoadLemmas
+pub mod LineLemmas
 pub mod PrintLemmas
+pub mod WorkLemmas
 pub mod RunLemmas
+pub mod ExactLemmas
 pub mod ReportLemmas
-pub mod LargeRuns
 pub mod Exported

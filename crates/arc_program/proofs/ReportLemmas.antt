@@ -1,7 +1,7 @@
 -- Reports, line by line.
 use Rattle.std.proofs.Common.{◌≡◌, ℕ, ◌+◌, ◌<◌, List, [], ◌∷◌, ◌++◌, length, take, get_or, ap, sym, ◌∙◌, arith, append_assoc, append-nil}
 use Rattle.std.proofs.lemmas.List.{take_more, length-take-le}
-use Rattle.arc_compile.specs.declared.compiled.TypeSize.{TypeSize}
+use Rattle.arc_compile.specs.declared.results.TypeSize.{TypeSize}
 use Rattle.arc_program.specs.Reports.{type_line, type_lines}
 
 -- the lines of more types come behind

@@ -1,83 +1,168 @@
--- Reports that were printed, and what a run owes.
-use Rattle.std.proofs.Common.{◌≡◌, ℕ, List, sym, subst, inl, inr, Some, None, IfSome, Result, Ok, Err, IsOkAnd, string_bytes}
-use Rattle.arc_io.specs.Bytes.{Told, Files}
-use Rattle.packing_laws.specs.Instances.{InstanceValue}
+-- How a run ends, from what was done and what was said.
+use Rattle.std.proofs.Common.{◌≡◌, ◌⊎◌, ◌∙◌, ℕ, List, refl, sym, ap, subst, inl, inr, Some, None, IfSome, Result, Ok, Err, string_bytes, arith}
+use Rattle.arc_io.specs.declared.IoFault.TheVariants as io
+use Rattle.arc_io.specs.Bytes.{Told}
+use Rattle.arc_io.specs.Faults.{Rose}
+use Rattle.packing_laws.specs.Instances.{InstanceValue, IsInstance}
+use Rattle.packing_laws.specs.Layouts as layouts
+use Rattle.packing_laws.specs.Layouts.{Layout, Vbp, Mvp, ReadsItsRow}
 use Rattle.packing_laws.specs.declared.fault.ReadFault.{ReadFault}
+use Rattle.arc_compile.specs.Graphs.{IsSmall, IsTooLarge}
+use Rattle.arc_compile.specs.CompileLaws.{SizesAreOne}
 use Rattle.arc_program.specs.declared.refusals.Refusal.{Refusal}
 use Rattle.arc_program.specs.declared.refusals.Refusal.TheVariants.{Words, Unread, Long, BadPlace, Large, Unwritten, Memory}
 use Rattle.arc_program.specs.declared.status.Status.{Status}
 use Rattle.arc_program.specs.declared.status.Status.TheVariants.{Done, Bracketed, Usage, BadInstance, BadCertificate, ReadFault as ReadFaults, WriteFault, NoMemory, TooLarge}
-use Rattle.arc_program.specs.declared.words.WordFault.{WordFault}
-use Rattle.arc_program.specs.Words.{Word, Request, words_of}
-use Rattle.arc_program.specs.Refusals.{long_line, place_line}
-use Rattle.arc_program.specs.Runs.{name_of, IsAccepted, IsLong, IsBadAt, IsReport, IsReported, IsEarly, HasReport, IsOwed, IsSaid, Says, SaysWhy}
+use Rattle.command_words.specs.declared.faults.WordFault.{WordFault}
+use Rattle.command_words.specs.Requests.{Request, Compiles, Solves, Exports}
+use Rattle.arc_program.specs.World.{ShelfSeen, SinkSeen, World}
+use Rattle.arc_program.specs.Printing.{Line, PutsOnce}
+use Rattle.arc_program.specs.Reading.{HasRead, HasFailed, MayHaveRead, KeepsWritten}
+use Rattle.command_words.specs.Lines.{word_fault_line}
+use Rattle.arc_program.specs.Refusals.{long_line, place_line, large_line, unread_line, memory_line, refusal_line, refusal_status}
+use Rattle.command_words.specs.Requests.{name_of, MakesGraphs}
+use Rattle.arc_program.specs.Requests.{layout_of, Writes, IsAccepted, IsLong, IsBadAt, IsRefused, IsLargeAt, IsRead, HasInstance}
+use Rattle.arc_program.specs.Statuses.{IsReported}
+use Rattle.arc_program.specs.Ends.{IsOwed, Answers, Ends, KeepsTo, MustEnd, IsExact, ComesOut, Starves}
+use Rattle.arc_program.specs.inner.Performed.{IsPrinted, IsCut, IsLargeRead, CarriesOut, HasNothingDone, Performs, IsSaid, SmallIsNotLarge}
 
-report_of_told : (told : Told) (request : Request) (I : InstanceValue) (status : Status) (text : List ℕ) (P : List ℕ → Type 0) → IfSome told (λ bytes. IsAccepted request bytes I) → IsReport request I status text → P text → IfSome told (λ bytes. (J : InstanceValue) × IsAccepted request bytes J × (t : List ℕ) × IsReport request J status t × P t)
-report_of_told None request I status text P a r p = tt
-report_of_told (Some bytes) request I status text P a r p = (I, a, text, r, p)
+-- three worlds' parts, before or after
+abbrev seen : ShelfSeen → SinkSeen → SinkSeen → World
+seen shelf out err = record { shelf = shelf; out = out; err = err }
 
--- a report on the instance that was read
-pub has_report : (words : List Word) (held : Files) (request : Request) (I : InstanceValue) (status : Status) (text : List ℕ) (P : List ℕ → Type 0) → words_of words ≡ Ok request → IfSome (held (name_of request)) (λ bytes. IsAccepted request bytes I) → IsReport request I status text → P text → HasReport words held status P
-has_report words held request I status text P w a r p =
-    subst (λ (asked : Result Request WordFault). IsOkAnd asked (λ q. IfSome (held (name_of q)) (λ bytes. (J : InstanceValue) × IsAccepted q bytes J × (t : List ℕ) × IsReport q J status t × P t)))
-    (sym w) (report_of_told (held (name_of request)) request I status text P a r p)
+-- nothing was read
+none_asked : (name : List ℕ) (told : Told) → IfSome told (λ old. (told ≡ Some old) ⊎ (told ≡ Some name))
+none_asked name None = tt
+none_asked name (Some old) = inl refl
 
--- where this status ended the run, its report was taken whole
-pub not_reported : {P : Type 0} (s t : Status) → IsReported s → (IsReported t → ⊥) → s ≡ t → P
-not_reported s t r n e = absurd (n (subst IsReported e r))
+read_nothing : (name : List ℕ) (shelf : ShelfSeen) → MayHaveRead name shelf shelf
+read_nothing name shelf = record { asked = none_asked name shelf.asked; taken = inl refl; faults = inl refl }
 
-long_is_said : (asked : Result Request WordFault) (held : Files) (name : List ℕ) (e0 e1 : Told) (f0 f1 : ℕ) → IsOkAnd asked (λ request. (name ≡ name_of request) × IfSome (held (name_of request)) IsLong) → Says (long_line name) e0 e1 f0 f1 → IsOkAnd asked (λ request. IfSome (held (name_of request)) (λ bytes. SaysWhy request bytes e0 e1 f0 f1))
-long_is_said (Err fault) held name e0 e1 f0 f1 h s = h
-long_is_said (Ok request) held name e0 e1 f0 f1 h s = told (held (name_of request)) h.1
-  where
-    told : (t : Told) → IfSome t IsLong → IfSome t (λ bytes. SaysWhy request bytes e0 e1 f0 f1)
-    told None l = tt
-    told (Some bytes) l = inl (l, subst (λ (n : List ℕ). Says (long_line n) e0 e1 f0 f1) h.0 s)
+one_asked : (name : List ℕ) (before after : Told) → IfSome before (λ _. after ≡ Some name) → IfSome before (λ old. (after ≡ Some old) ⊎ (after ≡ Some name))
+one_asked name None after h = tt
+one_asked name (Some old) after h = inr h
 
-bad_is_said : (asked : Result Request WordFault) (held : Files) (name : List ℕ) (fault : ReadFault) (e0 e1 : Told) (f0 f1 : ℕ) → IsOkAnd asked (λ request. (name ≡ name_of request) × IfSome (held (name_of request)) (λ bytes. IsBadAt request bytes fault)) → Says (place_line name fault) e0 e1 f0 f1 → IsOkAnd asked (λ request. IfSome (held (name_of request)) (λ bytes. SaysWhy request bytes e0 e1 f0 f1))
-bad_is_said (Err f) held name fault e0 e1 f0 f1 h s = h
-bad_is_said (Ok request) held name fault e0 e1 f0 f1 h s = told (held (name_of request)) h.1
-  where
-    told : (t : Told) → IfSome t (λ bytes. IsBadAt request bytes fault) → IfSome t (λ bytes. SaysWhy request bytes e0 e1 f0 f1)
-    told None l = tt
-    told (Some bytes) l = inr (fault, l, subst (λ (n : List ℕ). Says (place_line n fault) e0 e1 f0 f1) h.0 s)
+-- the name was read, or reading it failed
+pub may_have_read : (name : List ℕ) (before after : ShelfSeen) → HasRead name before after → MayHaveRead name before after
+may_have_read name before after read = record { asked = one_asked name before.asked after.asked read.asked; taken = inr (inr read.taken); faults = inl read.faults }
 
--- why the bytes are no instance is said
-pub why_is_said : (words : List Word) (held : Files) (t0 t1 : Told) (refusal : Refusal) (status : Status) (e0 e1 : Told) (f0 f1 : ℕ) → IsOwed words held t0 t1 refusal → IsSaid refusal status e0 e1 f0 f1 → status ≡ BadInstance → IsOkAnd (words_of words) (λ request. IfSome (held (name_of request)) (λ bytes. SaysWhy request bytes e0 e1 f0 f1))
-why_is_said words held t0 t1 refusal status e0 e1 f0 f1 o (inr s) e = absurd (clash status s.0 e)
-  where
-    clash : (t : Status) → t ≡ NoMemory → t ≡ BadInstance → ⊥
-    clash t a b = cc
-why_is_said words held t0 t1 (Long name) status e0 e1 f0 f1 o (inl s) e = long_is_said (words_of words) held (string_bytes name) e0 e1 f0 f1 o.0 s.1
-why_is_said words held t0 t1 (BadPlace name fault) status e0 e1 f0 f1 o (inl s) e = bad_is_said (words_of words) held (string_bytes name) fault e0 e1 f0 f1 o.0 s.1
-why_is_said words held t0 t1 (Words fault) status e0 e1 f0 f1 o (inl s) e = absurd (clash status s.0 e)
-  where
-    clash : (t : Status) → t ≡ Usage → t ≡ BadInstance → ⊥
-    clash t a b = cc
-why_is_said words held t0 t1 (Unread name) status e0 e1 f0 f1 o (inl s) e = absurd (clash status s.0 e)
-  where
-    clash : (t : Status) → t ≡ ReadFaults → t ≡ BadInstance → ⊥
-    clash t a b = cc
-why_is_said words held t0 t1 (Large name t) status e0 e1 f0 f1 o (inl s) e = absurd (clash status s.0 e)
-  where
-    clash : (t : Status) → t ≡ TooLarge → t ≡ BadInstance → ⊥
-    clash t a b = cc
-why_is_said words held t0 t1 Unwritten status e0 e1 f0 f1 o (inl s) e = absurd (clash status s.0 e)
-  where
-    clash : (t : Status) → t ≡ WriteFault → t ≡ BadInstance → ⊥
-    clash t a b = cc
-why_is_said words held t0 t1 Memory status e0 e1 f0 f1 o (inl s) e = absurd (clash status s.0 e)
-  where
-    clash : (t : Status) → t ≡ NoMemory → t ≡ BadInstance → ⊥
-    clash t a b = cc
+may_have_failed : (name : List ℕ) (before after : ShelfSeen) → HasFailed name before after → MayHaveRead name before after
+may_have_failed name before after read = record { asked = one_asked name before.asked after.asked read.asked; taken = inr read.taken; faults = inr read.faults }
 
-pub reported_not_early : {P : Type 0} (s : Status) → IsReported s → IsEarly s → P
-reported_not_early Done r e = absurd e
-reported_not_early Bracketed r e = absurd e
-reported_not_early Usage r e = absurd r
-reported_not_early BadInstance r e = absurd r
-reported_not_early BadCertificate r e = absurd r
-reported_not_early ReadFaults r e = absurd r
-reported_not_early WriteFault r e = absurd r
-reported_not_early NoMemory r e = absurd r
-reported_not_early TooLarge r e = absurd r
+-- without memory nothing is done, whatever the words ask for
+pub nothing_done : (asked : Result Request WordFault) (shelf : ShelfSeen) (out : SinkSeen) → Performs asked shelf shelf out out (Err Memory)
+nothing_done (Ok request) shelf out = (read_nothing (name_of request) shelf, inl refl)
+nothing_done (Err fault) shelf out = (refl, refl, tt)
+
+pub nothing_done_for : (asked : Result Request WordFault) (fault : WordFault) (shelf : ShelfSeen) (out : SinkSeen) → asked ≡ Err fault → Performs asked shelf shelf out out (Err (Words fault))
+nothing_done_for asked fault shelf out e = subst (λ (a : Result Request WordFault). Performs a shelf shelf out out (Err (Words fault))) (sym e) (refl, refl, refl)
+
+pub performed : (asked : Result Request WordFault) (request : Request) (before after : ShelfSeen) (old new : SinkSeen) (done : Result Status Refusal) → asked ≡ Ok request → CarriesOut request before after old new done → Performs asked before after old new done
+performed asked request before after old new done e carried = subst (λ (a : Result Request WordFault). Performs a before after old new done) (sym e) carried
+
+-- what is written
+writes_nothing : (request : Request) (before after : ShelfSeen) → KeepsWritten before after → Writes request before after
+writes_nothing (Compiles name mvp) before after keeps = keeps
+writes_nothing (Solves name mvp) before after keeps = keeps
+writes_nothing (Exports name mvp) before after keeps = keeps
+
+pub keeps_to : (asked : Result Request WordFault) (request : Request) (before after : ShelfSeen) → asked ≡ Ok request → KeepsWritten before after → KeepsTo asked before after
+keeps_to asked request before after e keeps = subst (λ (a : Result Request WordFault). KeepsTo a before after) (sym e) (writes_nothing request before after keeps)
+
+pub keeps_all : (asked : Result Request WordFault) (shelf : ShelfSeen) → KeepsTo asked shelf shelf
+keeps_all (Ok request) shelf = writes_nothing request shelf shelf (record { held = refl; written = refl; created = refl; writing = refl; faults = refl })
+keeps_all (Err fault) shelf = refl
+
+-- a run that printed its report
+printed_ends : (request : Request) (before after : ShelfSeen) (old new err : SinkSeen) (status : Status) → IsReported status → IsPrinted request before after old new status → Answers request (seen before old err) (seen after new err) status
+printed_ends request before after old new err Done r p = record { text = p.text; owed = p.owed; shelf = p.shelf; printed = p.printed; silent = refl }
+printed_ends request before after old new err Bracketed r p = record { text = p.text; owed = p.owed; shelf = p.shelf; printed = p.printed; silent = refl }
+printed_ends request before after old new err Usage r p = absurd r
+printed_ends request before after old new err BadInstance r p = absurd r
+printed_ends request before after old new err BadCertificate r p = absurd r
+printed_ends request before after old new err ReadFaults r p = absurd r
+printed_ends request before after old new err WriteFault r p = absurd r
+printed_ends request before after old new err NoMemory r p = absurd r
+printed_ends request before after old new err TooLarge r p = absurd r
+
+pub ends_reported : (asked : Result Request WordFault) (before after : ShelfSeen) (old new err : SinkSeen) (status : Status) → Performs asked before after old new (Ok status) → Ends asked (seen before old err) (seen after new err) status
+ends_reported (Ok request) before after old new err status done = printed_ends request before after old new err status done.0 done.1
+ends_reported (Err fault) before after old new err status done = absurd done.2
+
+-- a run that refuses
+module _ (request : Request) (before after : ShelfSeen) (old new e0 e1 : SinkSeen) where
+  lacks : MayHaveRead (name_of request) before after → new ≡ old → PutsOnce memory_line e0 e1 → Answers request (seen before old e0) (seen after new e1) NoMemory
+  lacks read same said = record { shelf = read; printed = inl same; said = said }
+
+  starved : CarriesOut request before after old new (Err Memory) → PutsOnce memory_line e0 e1 → Answers request (seen before old e0) (seen after new e1) NoMemory
+  starved done said = record { shelf = done.0; printed = cut done.1; said = said }
+    where
+      cut : (new ≡ old) ⊎ IsCut io.Memory request before after old new → (new ≡ old) ⊎ Starves request (seen before old e0) (seen after new e1)
+      cut (inl same) = inl same
+      cut (inr c) = inr (record { text = c.text; status = c.status; owed = c.owed; shelf = c.shelf; printed = c.printed })
+
+  -- no memory was left for the line of a refusal
+  unsaid_ends : (refusal : Refusal) (status : Status) → CarriesOut request before after old new (Err refusal) → refusal_status refusal ≡ status → PutsOnce memory_line e0 e1 → (refusal ≡ Unwritten → ⊥) → Answers request (seen before old e0) (seen after new e1) NoMemory
+  unsaid_ends (Words fault) status done is said not = absurd done
+  unsaid_ends (Unread name) status done is said not = lacks (may_have_failed (name_of request) before after done.1) done.2 said
+  unsaid_ends (Long name) status done is said not = lacks (may_have_read (name_of request) before after done.2) done.3 said
+  unsaid_ends (BadPlace name fault) status done is said not = lacks (may_have_read (name_of request) before after done.2) done.3 said
+  unsaid_ends (Large name t) status done is said not = lacks (may_have_read (name_of request) before after done.2) done.3 said
+  unsaid_ends Unwritten status done is said not = absurd (not refl)
+  unsaid_ends Memory status done is said not = starved done said
+
+  -- the line of a refusal was said
+  said_ends : (refusal : Refusal) → CarriesOut request before after old new (Err refusal) → PutsOnce (refusal_line refusal) e0 e1 → Answers request (seen before old e0) (seen after new e1) (refusal_status refusal)
+  said_ends (Words fault) done said = absurd done
+  said_ends (Unread name) done said = record {
+    shelf = done.1;
+    unprinted = done.2;
+    said = subst (λ (n : List ℕ). PutsOnce (unread_line n) e0 e1) done.0 said;
+  }
+  said_ends (Long name) done said = record {
+    line = long_line (string_bytes name);
+    why = inl (ap long_line done.0, done.1);
+    shelf = done.2;
+    unprinted = done.3;
+    said = said;
+  }
+  said_ends (BadPlace name fault) done said = record {
+    line = place_line (string_bytes name) fault;
+    why = inr (fault, ap (λ (n : List ℕ). place_line n fault) done.0, done.1);
+    shelf = done.2;
+    unprinted = done.3;
+    said = said;
+  }
+  said_ends (Large name t) done said = record {
+    makes = done.1.makes;
+    instance = done.1.instance;
+    read = done.1.read;
+    t = t;
+    large = done.1.large;
+    shelf = done.2;
+    unprinted = done.3;
+    said = subst (λ (n : List ℕ). PutsOnce (large_line n t) e0 e1) done.0 said;
+  }
+  said_ends Unwritten done said = record { text = done.text; status = done.status; owed = done.owed; shelf = done.shelf; printed = done.printed; said = said }
+  said_ends Memory done said = starved done said
+
+  said_or_not : (refusal : Refusal) (status : Status) → CarriesOut request before after old new (Err refusal) → (refusal ≡ Unwritten → status ≡ WriteFault) → IsSaid refusal status e0 e1 → Answers request (seen before old e0) (seen after new e1) status
+  said_or_not refusal status done unwritten (inl s) = subst (λ (t : Status). Answers request (seen before old e0) (seen after new e1) t) (sym s.0) (said_ends refusal done s.1)
+  said_or_not refusal status done unwritten (inr s) =
+      subst (λ (t : Status). Answers request (seen before old e0) (seen after new e1) t) (sym s.0)
+      (unsaid_ends refusal (refusal_status refusal) done refl s.1 (λ e. let bad : NoMemory ≡ WriteFault = sym s.0 ∙ unwritten e in cc))
+
+-- a run whose words have a fault
+words_end : (fault : WordFault) (shelf : ShelfSeen) (out e0 e1 : SinkSeen) (refusal : Refusal) (status : Status) → HasNothingDone fault (Err refusal) → IsSaid refusal status e0 e1 → ((status ≡ Usage) × PutsOnce (word_fault_line fault) e0 e1) ⊎ ((status ≡ NoMemory) × PutsOnce memory_line e0 e1)
+words_end fault shelf out e0 e1 refusal status done (inr s) = inr s
+words_end fault shelf out e0 e1 (Words refused) status done (inl s) = inl (s.0, subst (λ (f : WordFault). PutsOnce (word_fault_line f) e0 e1) (sym done) s.1)
+words_end fault shelf out e0 e1 (Unread name) status done (inl s) = absurd done
+words_end fault shelf out e0 e1 (Long name) status done (inl s) = absurd done
+words_end fault shelf out e0 e1 (BadPlace name place) status done (inl s) = absurd done
+words_end fault shelf out e0 e1 (Large name t) status done (inl s) = absurd done
+words_end fault shelf out e0 e1 Unwritten status done (inl s) = absurd done
+words_end fault shelf out e0 e1 Memory status done (inl s) = inr s
+
+pub ends_refused : (asked : Result Request WordFault) (before after : ShelfSeen) (old new e0 e1 : SinkSeen) (refusal : Refusal) (status : Status) → Performs asked before after old new (Err refusal) → (refusal ≡ Unwritten → status ≡ WriteFault) → IsSaid refusal status e0 e1 → Ends asked (seen before old e0) (seen after new e1) status
+ends_refused (Ok request) before after old new e0 e1 refusal status done unwritten said = said_or_not request before after old new e0 e1 refusal status done unwritten said
+ends_refused (Err fault) before after old new e0 e1 refusal status done unwritten said = record { shelf = done.0; unprinted = done.1; said = words_end fault after new e0 e1 refusal status done.2 said }

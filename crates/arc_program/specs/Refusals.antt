@@ -2,8 +2,7 @@
 use Rattle.std.specs.Prelude.{ℕ, List, ◌++◌, codes, decimal, string_bytes}
 use Rattle.packing_laws.specs.declared.fault.ReadFault.{ReadFault}
 use Rattle.packing_laws.specs.declared.fault.ReadFault.TheVariants as read
-use Rattle.arc_program.specs.declared.words.WordFault.{WordFault}
-use Rattle.arc_program.specs.declared.words.WordFault.TheVariants as word
+use Rattle.command_words.specs.Lines.{word_fault_line}
 use Rattle.arc_program.specs.declared.refusals.Refusal.{Refusal}
 use Rattle.arc_program.specs.declared.refusals.Refusal.TheVariants.{Words, Unread, Long, BadPlace, Large, Unwritten, Memory}
 use Rattle.arc_program.specs.declared.status.Status.{Status}
@@ -12,22 +11,6 @@ use Rattle.arc_program.specs.declared.status.Status.TheVariants.{Usage, BadInsta
 -- a line about something that has a name
 abbrev pub named_line : List ℕ → List ℕ → List ℕ
 named_line name said = codes "vpack: " ++ name ++ codes ": " ++ said ++ codes "\n"
-
--- a line about a word, by its number
-abbrev pub word_line : ℕ → List ℕ → List ℕ
-word_line k said = codes "vpack: word " ++ decimal k ++ codes ": " ++ said ++ codes "\n"
-
--- the line on a fault of the command line
-abbrev pub word_fault_line : WordFault → List ℕ
-word_fault_line word.NoCommand = codes "vpack: no command\n"
-word_fault_line (word.NoSuchCommand k) = word_line k (codes "no such command")
-word_fault_line (word.NoSuchOption k) = word_line k (codes "no such option")
-word_fault_line (word.Repeated k) = word_line k (codes "option repeated")
-word_fault_line (word.TooManyWords k) = word_line k (codes "one word too many")
-word_fault_line (word.BadValue k) = word_line k (codes "bad value")
-word_fault_line (word.BadName k) = word_line k (codes "bad name")
-word_fault_line word.TooFewWords = codes "vpack: too few words\n"
-word_fault_line word.Memory = codes "vpack: out of memory\n"
 
 -- a line about a token of an instance, by its number
 abbrev pub token_line : List ℕ → ℕ → List ℕ → List ℕ

@@ -13,3 +13,15 @@ code_of ReadFault = 5
 code_of WriteFault = 6
 code_of NoMemory = 7
 code_of TooLarge = 8
+
+-- the report was taken whole
+abbrev pub IsReported : Status → Type 0
+IsReported Done = Unit {0}
+IsReported Bracketed = Unit {0}
+IsReported Usage = ⊥
+IsReported BadInstance = ⊥
+IsReported BadCertificate = ⊥
+IsReported ReadFault = ⊥
+IsReported WriteFault = ⊥
+IsReported NoMemory = ⊥
+IsReported TooLarge = ⊥

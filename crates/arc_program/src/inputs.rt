@@ -1,16 +1,17 @@
 //! Reading the instance that a command names.
 
-ghost use Rattle.std.specs.Prelude.{◌≡◌, IfSome, Some, MatchResult, ◌⊎◌, ◌≤◌, length};
+ghost use Rattle.std.specs.Prelude.{◌≡◌, MatchResult, ◌⊎◌, ◌≤◌, length};
 ghost use Rattle.packing_laws.specs.Layouts.{Reads, BadPlace};
 ghost use Rattle.arc_num.specs.declared.TheConstants.{MAX_INSTANCE};
-ghost use Rattle.arc_program.specs.Words.{request_of};
-ghost use Rattle.arc_program.specs.Loading.{KeepsWrites};
-ghost use Rattle.arc_program.specs.Runs.{name_of, layout_for};
-ghost use Rattle.arc_program.specs.Inputs.{IsInput, CountsInput};
+ghost use Rattle.command_words.specs.Requests.{request_of};
+ghost use Rattle.arc_program.specs.World.{shelf_seen};
+ghost use Rattle.arc_program.specs.Requests.{layout_for};
+ghost use Rattle.arc_program.specs.Reading.{KeepsWritten};
+ghost use Rattle.arc_program.specs.inner.Inputs.{IsInput};
 
 use crate::loading::{LoadFault, load};
-use crate::words::Command;
 use arc_io::Shelf;
+use command_words::Command;
 use mvp_reader::read_mvp;
 use packing_laws::{Instance, ReadFault};
 use std::alloc::Global;
@@ -52,19 +53,20 @@ pub fn load_instance<H: Shelf>(
     shelf: &mut H,
     command: &Command,
 ) -> Result<Instance, InputFault>
-    ensures input { IsInput (request_of command.now) (H.held shelf.old (name_of (request_of command.now))) result }
-    ensures faults { CountsInput result (H.read_faults shelf.old) (H.read_faults shelf.new) }
-    ensures asked { result ≡ Err InputFault.Failed → IfSome (H.asked shelf.old) (λ _. H.asked shelf.new ≡ Some (name_of (request_of command.now))) }
-    ensures writes { KeepsWrites H.written H.created H.writing H.write_faults shelf.old shelf.new }
+    ensures input { IsInput (request_of command.now) result (shelf_seen H.Shelf shelf.old) (shelf_seen H.Shelf shelf.new) }
+    ensures writes { KeepsWritten (shelf_seen H.Shelf shelf.old) (shelf_seen H.Shelf shelf.new) }
 {
-    let text = match load(alloc, shelf, command.name()) {
+    let text = match load(alloc, shelf, command.source().name) {
         Ok(text) => text,
         Err(LoadFault::Failed) => return Err(InputFault::Failed),
         Err(LoadFault::Long) => return Err(InputFault::Long),
         Err(LoadFault::Memory) => return Err(InputFault::Memory),
     };
-    match parse(alloc, text.as_slice(), command.is_mvp()) {
-        Ok(instance) => Ok(instance),
+    match parse(alloc, text.as_slice(), command.source().mvp) {
+        Ok(instance) => {
+            instance.known();
+            Ok(instance)
+        }
         Err(ReadFault::Memory) => Err(InputFault::Memory),
         Err(fault) => Err(InputFault::Misread { fault }),
     }

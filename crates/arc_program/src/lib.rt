@@ -2,23 +2,21 @@
 #![tactic(auto)]
 
 mod answers;
+mod commands;
 mod inputs;
 mod loading;
+mod performing;
 mod printing;
 mod refusals;
 mod reports;
 mod runs;
-mod scans;
 mod status;
-mod tasks;
 #[cfg(test)]
 mod tests;
-mod text;
-mod words;
 
 pub use answers::Answer;
+pub use command_words::{Command, WordFault, read_words};
 pub use refusals::Refusal;
 pub use reports::{compile_text, solve_text};
 pub use runs::run;
 pub use status::Status;
-pub use words::{Command, WordFault, read_words};

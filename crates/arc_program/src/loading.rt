@@ -1,13 +1,17 @@
 //! Reading a whole text from a shelf.
 
-ghost use Rattle.std.specs.Prelude.{◌≡◌, ◌≢◌, ◌<◌, ◌≤◌, [], IfOk, IfSome, OnOk, MatchResult, Some, length, vec_len};
-ghost use Rattle.arc_program.specs.Loading.{KeepsWrites, CountsLoad, ReadsPiece, Loads};
+ghost use Rattle.std.specs.Prelude.{◌≡◌, ◌≢◌, ◌+◌, ◌<◌, ◌≤◌, [], IfOk, IfSome, OnOk, MatchResult, length, vec_len};
+ghost use Rattle.arc_program.specs.World.{shelf_seen};
+ghost use Rattle.arc_program.specs.Reading.{KeepsWritten};
+ghost use Rattle.arc_program.specs.inner.Loading.{CountsLoad, ReadsPiece, TakesAtMost, Loads};
 
-use crate::text::Text;
 use arc_io::{IoFault, Shelf};
-use arc_num::MAX_INSTANCE;
+use arc_num::{Listed, MAX_INSTANCE};
 use std::alloc::Global;
 use thiserror::Error;
+
+/// Bytes that are read or printed.
+pub type Text = Listed<u8>;
 
 /// How many bytes are read at once, at most.
 const PIECE: usize = 65_536;
@@ -26,19 +30,22 @@ pub enum LoadFault {
     Memory,
 }
 
-/// Reads at most as many bytes as the piece has, and puts them at the end of the text. 0 is the end.
+/// Reads at most as many bytes as the piece has, and puts them at the end of the text. 0 is the end. Nothing else reads
+/// from a shelf.
 fn read_piece<H: Shelf>(
     shelf: &mut H,
     piece: &mut [u8],
     text: &mut Vec<u8>,
 ) -> Result<usize, LoadFault>
-    requires { 0 < length piece.old }
+    requires some { 0 < length piece.old }
+    requires few { length piece.old ≤ PIECE }
     ensures count { IfOk result (λ n. n ≤ length piece.old) }
     ensures text { ReadsPiece result text.old.items text.new.items (H.left shelf.old) (H.left shelf.new) }
+    ensures taken { TakesAtMost (length piece.old) (H.left shelf.old) (H.left shelf.new) }
     ensures not_long { result ≢ Err LoadFault.Long }
     ensures faults { CountsLoad result (H.read_faults shelf.old) (H.read_faults shelf.new) }
     ensures asked { H.asked shelf.new ≡ H.asked shelf.old }
-    ensures writes { KeepsWrites H.written H.created H.writing H.write_faults shelf.old shelf.new }
+    ensures writes { KeepsWritten (shelf_seen H.Shelf shelf.old) (shelf_seen H.Shelf shelf.new) }
 {
     let n = match shelf.more(piece) {
         Ok(n) => n,
@@ -57,10 +64,11 @@ fn read_rest<H: Shelf>(shelf: &mut H, space: &mut [u8], text: &mut Vec<u8>) -> R
     requires empty { text.old.items ≡ [] }
     ensures length { OnOk result (vec_len text.new ≤ MAX_INSTANCE) }
     ensures all { OnOk result (IfSome (H.left shelf.old) (λ all. text.new.items ≡ all)) }
+    ensures taken { TakesAtMost (MAX_INSTANCE + 1) (H.left shelf.old) (H.left shelf.new) }
     ensures long { result ≡ Err LoadFault.Long → IfSome (H.left shelf.old) (λ all. MAX_INSTANCE < length all) }
     ensures faults { CountsLoad result (H.read_faults shelf.old) (H.read_faults shelf.new) }
     ensures asked { H.asked shelf.new ≡ H.asked shelf.old }
-    ensures writes { KeepsWrites H.written H.created H.writing H.write_faults shelf.old shelf.new }
+    ensures writes { KeepsWritten (shelf_seen H.Shelf shelf.old) (shelf_seen H.Shelf shelf.new) }
 {
     'pieces: while text.len() <= MAX_INSTANCE {
         let size = PIECE.min(MAX_INSTANCE + 1 - text.len());
@@ -86,10 +94,8 @@ fn buffer_of(alloc: Global, size: usize) -> Result<Vec<u8>, LoadFault>
 
 /// Reads all that a name holds, up to the greatest length of an instance's text and one byte more.
 pub fn load<H: Shelf>(alloc: Global, shelf: &mut H, name: &str) -> Result<Text, LoadFault>
-    ensures text { Loads result (H.held shelf.old name.now) }
-    ensures faults { CountsLoad result (H.read_faults shelf.old) (H.read_faults shelf.new) }
-    ensures asked { result ≡ Err LoadFault.Failed → IfSome (H.asked shelf.old) (λ _. H.asked shelf.new ≡ Some name.now) }
-    ensures writes { KeepsWrites H.written H.created H.writing H.write_faults shelf.old shelf.new }
+    ensures loads { Loads name.now result (shelf_seen H.Shelf shelf.old) (shelf_seen H.Shelf shelf.new) }
+    ensures writes { KeepsWritten (shelf_seen H.Shelf shelf.old) (shelf_seen H.Shelf shelf.new) }
 {
     match shelf.start(name) {
         Ok(()) => {}

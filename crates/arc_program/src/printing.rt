@@ -1,18 +1,28 @@
 //! Putting texts on a sink, a line at a time.
 
-ghost use Rattle.std.specs.Prelude.{◌≡◌, ◌<◌, ◌≤◌, length};
-ghost use Rattle.arc_io.specs.Faults.{CountsFault};
-ghost use Rattle.arc_program.specs.Printing.{Prints};
+ghost use Rattle.std.specs.Prelude.{◌≡◌, ◌∷◌, ◌<◌, ◌≤◌, length, drop, slice_range};
+ghost use Rattle.std.specs.List.{position};
+ghost use Rattle.arc_program.specs.World.{sink_seen};
+ghost use Rattle.arc_program.specs.Printing.{lines_of};
+ghost use Rattle.arc_program.specs.inner.Printing.{Prints, is_line_feed};
 
 use arc_io::{IoFault, Sink};
+
+/// The place of the first line feed.
+fn first_feed(bytes: &[u8]) -> Option<usize>
+    ensures { result ≡ position is_line_feed bytes.now }
+{
+    bytes.iter().position(|byte| *byte == b'\n')
+}
 
 /// Where the line that begins at `from` ends: behind its line feed, or at the end of the text.
 fn line_end(text: &[u8], from: usize) -> usize
     requires { from < length text.now }
     ensures after { from < result }
     ensures within { result ≤ length text.now }
+    ensures line { lines_of (drop from text.now) ≡ slice_range text.now from result ∷ lines_of (drop result text.now) }
 {
-    match text[from..].iter().position(|byte| *byte == b'\n') {
+    match first_feed(&text[from..]) {
         Some(i) => from + i + 1,
         None => text.len(),
     }
@@ -20,8 +30,7 @@ fn line_end(text: &[u8], from: usize) -> usize
 
 /// Puts a text on a sink, one put for each line. After a put that fails no more is put.
 pub fn put_lines<K: Sink>(out: &mut K, text: &[u8]) -> Result<(), IoFault>
-    ensures text { Prints result text.now (K.taken out.old) (K.taken out.new) }
-    ensures faults { CountsFault result (K.faults out.old) (K.faults out.new) }
+    ensures { Prints result text.now (sink_seen K.Sink out.old) (sink_seen K.Sink out.new) }
 {
     let mut at = 0;
     'lines: while at < text.len() {

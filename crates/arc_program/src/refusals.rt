@@ -1,10 +1,12 @@
 //! What the program refuses, and what it says then.
 
 ghost use Rattle.std.specs.Prelude.{◌≡◌, ◌++◌, IfOk, string_bytes, codes};
-ghost use Rattle.arc_program.specs.Refusals.{word_line, word_fault_line, token_line, place_line, refusal_line, refusal_status, named_line, no_weight, large_line};
+ghost use Rattle.command_words.specs.Lines.{word_fault_line};
+ghost use Rattle.arc_program.specs.Refusals.{token_line, place_line, refusal_line, refusal_status, named_line, no_weight, large_line};
 
 use crate::status::Status;
-use crate::words::WordFault;
+use arc_num::Memory;
+use command_words::{WordFault, push_word_fault};
 use packing_laws::ReadFault;
 use std::alloc::{AllocError, Global};
 
@@ -27,26 +29,12 @@ pub enum Refusal {
     Memory,
 }
 
-fn word_text(alloc: Global, word: u64, said: &str) -> Result<String, AllocError>
-    ensures { IfOk result (λ line. string_bytes line ≡ word_line word said.now) }
+fn word_fault_text(alloc: Global, fault: WordFault) -> Result<Vec<u8>, Memory>
+    ensures { IfOk result (λ line. line.items ≡ word_fault_line fault) }
 {
-    format!(in alloc; "vpack: word {word}: {said}\n")
-}
-
-fn word_fault_text(alloc: Global, fault: WordFault) -> Result<String, AllocError>
-    ensures { IfOk result (λ line. string_bytes line ≡ word_fault_line fault) }
-{
-    match fault {
-        WordFault::NoCommand => String::from_str(alloc, "vpack: no command\n"),
-        WordFault::NoSuchCommand { word } => word_text(alloc, word, "no such command"),
-        WordFault::NoSuchOption { word } => word_text(alloc, word, "no such option"),
-        WordFault::Repeated { word } => word_text(alloc, word, "option repeated"),
-        WordFault::TooManyWords { word } => word_text(alloc, word, "one word too many"),
-        WordFault::BadValue { word } => word_text(alloc, word, "bad value"),
-        WordFault::BadName { word } => word_text(alloc, word, "bad name"),
-        WordFault::TooFewWords => String::from_str(alloc, "vpack: too few words\n"),
-        WordFault::Memory => String::from_str(alloc, "vpack: out of memory\n"),
-    }
+    let mut line = Vec::new(alloc);
+    push_word_fault(&mut line, fault)?;
+    Ok(line)
 }
 
 fn token_text(alloc: Global, name: &str, index: u64, said: &str) -> Result<String, AllocError>
@@ -109,18 +97,19 @@ fn large_text(alloc: Global, name: &str, t: u32) -> Result<String, AllocError>
 }
 
 /// The line on a refusal.
-pub fn refusal_text(alloc: Global, refusal: &Refusal) -> Result<String, AllocError>
-    ensures { IfOk result (λ line. string_bytes line ≡ refusal_line refusal.now) }
+pub fn refusal_text(alloc: Global, refusal: &Refusal) -> Result<Vec<u8>, Memory>
+    ensures { IfOk result (λ line. line.items ≡ refusal_line refusal.now) }
 {
-    match refusal {
-        Refusal::Words { fault } => word_fault_text(alloc, *fault),
-        Refusal::Unread { name } => unread_text(alloc, name.as_str()),
-        Refusal::Long { name } => long_text(alloc, name.as_str()),
-        Refusal::BadPlace { name, fault } => place_text(alloc, name.as_str(), *fault),
-        Refusal::Large { name, t } => large_text(alloc, name.as_str(), *t),
-        Refusal::Unwritten => String::from_str(alloc, "vpack: cannot write output\n"),
-        Refusal::Memory => String::from_str(alloc, "vpack: out of memory\n"),
-    }
+    let line = match refusal {
+        Refusal::Words { fault } => return word_fault_text(alloc, *fault),
+        Refusal::Unread { name } => unread_text(alloc, name.as_str())?,
+        Refusal::Long { name } => long_text(alloc, name.as_str())?,
+        Refusal::BadPlace { name, fault } => place_text(alloc, name.as_str(), *fault)?,
+        Refusal::Large { name, t } => large_text(alloc, name.as_str(), *t)?,
+        Refusal::Unwritten => String::from_str(alloc, "vpack: cannot write output\n")?,
+        Refusal::Memory => String::from_str(alloc, "vpack: out of memory\n")?,
+    };
+    Ok(line.into_bytes())
 }
 
 impl Refusal {

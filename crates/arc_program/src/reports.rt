@@ -6,16 +6,9 @@ ghost use Rattle.flow_graph.specs.Arcs.{numbered};
 
 use crate::answers::Answer;
 use arc_compile::{Compiled, TypeSize};
-use arc_num::{Memory, push_number};
+use arc_num::{Memory, push_bytes, push_number};
 use packing_laws::{Bin, Count, Instance};
 use std::alloc::Global;
-
-fn push_bytes(out: &mut Vec<u8>, bytes: &[u8]) -> Result<(), Memory>
-    ensures { OnOk result (out.new.items ≡ out.old.items ++ bytes.now) }
-{
-    out.extend_from_slice(bytes)?;
-    Ok(())
-}
 
 fn push_count(out: &mut Vec<u8>, count: Count) -> Result<(), Memory>
     ensures { OnOk result (out.new.items ≡ out.old.items ++ count_text count) }

@@ -6,7 +6,7 @@ ghost use Rattle.arc_program.specs.Statuses.{code_of};
 pub enum Status {
     /// The report was taken whole.
     Done,
-    /// The report was taken whole: a bound below the cost of what was found.
+    /// The report was taken whole: a bound, and a packing above it or none at all.
     Bracketed,
     /// The words ask for nothing.
     Usage,
@@ -25,6 +25,7 @@ pub enum Status {
 }
 
 impl Status {
+    /// The exit status of the program: 0 to 8, in the order above.
     pub fn code(&self) -> u8
         ensures { result ≡ code_of self.now }
     {

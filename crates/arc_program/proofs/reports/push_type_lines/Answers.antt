@@ -1,6 +1,6 @@
 use Rattle.std.proofs.Common.{◌≡◌, ◌<◌, ◌∙◌, ◌+◌, ap, List, ℕ, ◌++◌, get_or, length, take, arith, append_assoc}
 use Rattle.std.proofs.lemmas.List.{get_or_default, take_all}
-use Rattle.arc_compile.specs.declared.compiled.TypeSize.{TypeSize}
+use Rattle.arc_compile.specs.declared.results.TypeSize.{TypeSize}
 use Rattle.arc_program.specs.Reports.{type_and_level, main_and_final, type_lines}
 use Rattle.arc_program.proofs.ReportLemmas.{type_lines-more}
 use Rattle.arc_program.proofs.reports.push_type_lines.Goals as goal

@@ -1,4 +1,4 @@
-use Rattle.arc_program.proofs.LargeRuns.{small_is_not_large}
+use Rattle.arc_program.proofs.ExactLemmas.{small_is_not_large}
 use Rattle.arc_program.proofs.runs.small_is_not_large.Goals as goal
 
 pub returns : goal.returns

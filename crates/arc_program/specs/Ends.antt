@@ -1,0 +1,133 @@
+-- How a run ends: by its status, why it ended so, what it did to the shelf, what its report on `out` is, and what it said on `err`.
+use Rattle.std.specs.Prelude.{◌≡◌, ℕ, ◌⊎◌, List, IfSome, IsSomeAnd, Result, Ok, Err}
+use Rattle.arc_io.specs.declared.IoFault.TheVariants as io
+use Rattle.arc_io.specs.Bytes.{Told, Files}
+use Rattle.arc_io.specs.Faults.{Rose}
+use Rattle.packing_laws.specs.declared.fault.ReadFault.{ReadFault}
+use Rattle.packing_laws.specs.Instances.{InstanceValue}
+use Rattle.arc_compile.specs.Graphs.{IsTooLarge}
+use Rattle.command_words.specs.declared.faults.WordFault.{WordFault}
+use Rattle.arc_program.specs.declared.status.Status.{Status}
+use Rattle.arc_program.specs.declared.status.Status.TheVariants.{Done, Bracketed, Usage, BadInstance, BadCertificate, ReadFault as ReadFaults, WriteFault, NoMemory, TooLarge}
+use Rattle.command_words.specs.Requests.{Request}
+use Rattle.arc_program.specs.World.{ShelfSeen, World}
+use Rattle.arc_program.specs.Reading.{HasRead, HasFailed, MayHaveRead}
+use Rattle.arc_program.specs.Printing.{Line, PutsOnce, PutsText, CutsOff}
+use Rattle.command_words.specs.Lines.{word_fault_line}
+use Rattle.arc_program.specs.Refusals.{unread_line, long_line, place_line, large_line, output_line, memory_line}
+use Rattle.command_words.specs.Requests.{name_of, MakesGraphs}
+use Rattle.arc_program.specs.Requests.{Writes, IsRead, IsLong, IsBadAt, IsRefused, IsLargeAt, HasInstance}
+use Rattle.arc_program.specs.Statuses.{IsReported}
+use Rattle.arc_program.specs.commands.{IsReport}
+
+-- the text is a report that is owed for the instance under the name that is asked about, and this is the status of a run that prints it
+pub record IsOwed (request : Request) (shelf : ShelfSeen) (status : Status) (text : List ℕ) : Type 0 where
+  pub instance : InstanceValue
+  pub read : IsRead request shelf.held instance
+  pub report : IsReport request instance status text
+
+-- the report was taken whole, and nothing was said
+pub record Reports (request : Request) (before after : World) (status : Status) : Type 0 where
+  pub text : List ℕ
+  pub owed : IsOwed request before.shelf status text
+  pub shelf : HasRead (name_of request) before.shelf after.shelf
+  pub printed : PutsText text before.out after.out
+  pub silent : after.err ≡ before.err
+
+-- the line says why the bytes are no instance: there are too many, or they have a first bad place
+abbrev pub SaysWhy : Request → Told → Line → Type 0
+SaysWhy request held line =
+    ((line ≡ long_line (name_of request)) × IfSome held IsLong)
+    ⊎ ((fault : ReadFault) × (line ≡ place_line (name_of request) fault) × IfSome held (λ bytes. IsBadAt request bytes fault))
+
+-- the bytes are no instance; nothing was printed, and why was said
+pub record RefusesBytes (request : Request) (before after : World) : Type 0 where
+  pub line : Line
+  pub why : SaysWhy request (before.shelf.held (name_of request)) line
+  pub shelf : HasRead (name_of request) before.shelf after.shelf
+  pub unprinted : after.out ≡ before.out
+  pub said : PutsOnce line before.err after.err
+
+-- the graphs are too large; nothing was printed, and the first type that is too much was said
+pub record RefusesGraphs (request : Request) (before after : World) : Type 0 where
+  pub makes : MakesGraphs request
+  pub instance : InstanceValue
+  pub read : IsRead request before.shelf.held instance
+  pub t : ℕ
+  pub large : IsTooLarge instance t
+  pub shelf : HasRead (name_of request) before.shelf after.shelf
+  pub unprinted : after.out ≡ before.out
+  pub said : PutsOnce (large_line (name_of request) t) before.err after.err
+
+-- a read failed; nothing was printed, and the name that could not be read was said
+pub record CannotRead (request : Request) (before after : World) : Type 0 where
+  pub shelf : HasFailed (name_of request) before.shelf after.shelf
+  pub unprinted : after.out ≡ before.out
+  pub said : PutsOnce (unread_line (name_of request)) before.err after.err
+
+-- the report was cut off by a put of `out` that failed, and that was said
+pub record CannotWrite (request : Request) (before after : World) : Type 0 where
+  pub text : List ℕ
+  pub status : Status
+  pub owed : IsOwed request before.shelf status text
+  pub shelf : HasRead (name_of request) before.shelf after.shelf
+  pub printed : CutsOff io.Failed text before.out after.out
+  pub said : PutsOnce output_line before.err after.err
+
+-- the report was cut off by a put of `out` that found no memory
+pub record Starves (request : Request) (before after : World) : Type 0 where
+  pub text : List ℕ
+  pub status : Status
+  pub owed : IsOwed request before.shelf status text
+  pub shelf : HasRead (name_of request) before.shelf after.shelf
+  pub printed : CutsOff io.Memory text before.out after.out
+
+-- memory was wanting, and that was said; nothing was printed, but where `out` itself found none
+pub record LacksMemory (request : Request) (before after : World) : Type 0 where
+  pub shelf : MayHaveRead (name_of request) before.shelf after.shelf
+  pub printed : (after.out ≡ before.out) ⊎ Starves request before after
+  pub said : PutsOnce memory_line before.err after.err
+
+-- how a run ends that is asked for something
+abbrev pub Answers : Request → World → World → Status → Type 0
+Answers request before after Done = Reports request before after Done
+Answers request before after Bracketed = Reports request before after Bracketed
+Answers request before after Usage = ⊥
+Answers request before after BadInstance = RefusesBytes request before after
+Answers request before after BadCertificate = ⊥
+Answers request before after ReadFaults = CannotRead request before after
+Answers request before after WriteFault = CannotWrite request before after
+Answers request before after NoMemory = LacksMemory request before after
+Answers request before after TooLarge = RefusesGraphs request before after
+
+-- how a run ends whose words have this fault: it says so, or lacks memory; nothing is read and nothing printed
+pub record RefusesWords (fault : WordFault) (before after : World) (status : Status) : Type 0 where
+  pub shelf : after.shelf ≡ before.shelf
+  pub unprinted : after.out ≡ before.out
+  pub said : ((status ≡ Usage) × PutsOnce (word_fault_line fault) before.err after.err) ⊎ ((status ≡ NoMemory) × PutsOnce memory_line before.err after.err)
+
+-- how a run ends, by what the words ask for
+abbrev pub Ends : Result Request WordFault → World → World → Status → Type 0
+Ends (Ok request) before after status = Answers request before after status
+Ends (Err fault) before after status = RefusesWords fault before after status
+
+-- what is written on the shelf is what is asked for
+abbrev pub KeepsTo : Result Request WordFault → ShelfSeen → ShelfSeen → Type 0
+KeepsTo (Ok request) before after = Writes request before after
+KeepsTo (Err fault) before after = after ≡ before
+
+-- the status, unless a read failed or memory was wanting
+abbrev pub ComesOut : Status → Status → Type 0
+ComesOut expected status = (status ≡ expected) ⊎ ((status ≡ ReadFaults) ⊎ (status ≡ NoMemory))
+
+-- what the bytes under the name must lead to
+pub record MustEnd (request : Request) (bytes : List ℕ) (before after : World) (status : Status) : Type 0 where
+  pub refused : IsRefused request bytes → ComesOut BadInstance status
+  pub large : (t : ℕ) → MakesGraphs request → IsLargeAt request t bytes → ComesOut TooLarge status
+  pub accepted : HasInstance request bytes → ¬ Rose before.shelf.read_faults after.shelf.read_faults → ¬ Rose before.out.faults after.out.faults → IsReported status ⊎ (status ≡ NoMemory)
+
+-- each cause is seen: a fault of the words, and where the bytes under the name are told, theirs; nothing else comes where they spell an
+-- instance and nothing failed
+abbrev pub IsExact : Result Request WordFault → World → World → Status → Type 0
+IsExact (Ok request) before after status = IfSome (before.shelf.held (name_of request)) (λ bytes. MustEnd request bytes before after status)
+IsExact (Err fault) before after status = (status ≡ Usage) ⊎ (status ≡ NoMemory)

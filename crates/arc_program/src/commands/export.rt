@@ -1,0 +1,60 @@
+//! The command `export`: the model of an instance, as MPS text.
+
+ghost use Rattle.std.specs.Prelude.{◌≡◌, ℕ, IfOk, IfErr};
+ghost use Rattle.arc_compile.specs.Graphs.{IsSmall, IsTooLarge};
+ghost use Rattle.arc_compile.specs.Compiled.{AreCompiled};
+ghost use Rattle.flow_graph.specs.Faithful.{IsFaithful};
+ghost use Rattle.arc_program.specs.Statuses.{IsReported};
+ghost use Rattle.arc_program.specs.commands.Export.{IsExport};
+
+use crate::commands::Report;
+use crate::loading::Text;
+use crate::status::Status;
+use arc_compile::{CompileFault, Compiled, compile};
+use arc_num::Memory;
+use flow_model::{packings_are_flows, program_of, solutions_are_flows};
+use mps_text::{write_mps, written_is_read};
+use packing_laws::Instance;
+use pattern_extract::flows_are_packings;
+use std::alloc::Global;
+use std::thread::Threads;
+
+/// The model of an instance that is compiled, as MPS text. The text is made whole before any of it is printed, so that
+/// want of memory leaves nothing printed.
+fn model_report(alloc: Global, instance: &Instance, compiled: &Compiled) -> Result<Report, Memory>
+    requires compiled { AreCompiled instance.now compiled.now.graph compiled.now.sizes }
+    requires faithful { IsFaithful instance.now compiled.now.graph }
+    requires small { IsSmall instance.now }
+    ensures reported { IfOk result (λ report. IsReported report.status) }
+    ensures text { IfOk result (λ report. IsExport instance.now report.status report.text) }
+{
+    instance.known();
+    compiled.graph.known();
+    solutions_are_flows();
+    packings_are_flows();
+    flows_are_packings();
+    written_is_read();
+    let program = program_of(alloc, &compiled.graph, instance)?;
+    let text = Text::new(write_mps(alloc, &program)?);
+    Ok(Report {
+        text,
+        status: Status::Done,
+    })
+}
+
+/// The report of `export`.
+pub fn report<R: Threads + Sync>(
+    rt: &R,
+    alloc: Global,
+    instance: &Instance,
+) -> Result<Report, CompileFault>
+    ensures reported { IfOk result (λ report. IsReported report.status) }
+    ensures text { IfOk result (λ report. IsExport instance.now report.status report.text) }
+    ensures large { IfErr result (λ fault. (t : ℕ) → fault ≡ CompileFault.TooManyArcs t → IsTooLarge instance.now t) }
+{
+    let compiled = compile(rt, alloc, instance, 1)?;
+    match model_report(alloc, instance, &compiled) {
+        Ok(report) => Ok(report),
+        Err(Memory) => Err(CompileFault::Memory),
+    }
+}

@@ -1,0 +1,100 @@
+//! What a run does, up to what it has still to say.
+
+ghost use Rattle.std.specs.Prelude.{◌≡◌, ◌⊎◌, ℕ, Result, Err, IfOk, Some, map, string_bytes};
+ghost use Rattle.arc_compile.specs.Graphs.{IsTooLarge};
+ghost use Rattle.packing_laws.specs.Instances.{InstanceValue};
+ghost use Rattle.command_words.specs.declared.faults.WordFault.{WordFault};
+ghost use Rattle.command_words.specs.Requests.{Request, words_of, request_of};
+ghost use Rattle.command_words.specs.Faults.{FaultIs};
+ghost use Rattle.arc_program.specs.World.{ShelfSeen, SinkSeen, shelf_seen, sink_seen};
+ghost use Rattle.command_words.specs.Requests.{name_of, MakesGraphs};
+ghost use Rattle.arc_program.specs.Requests.{IsRead};
+ghost use Rattle.arc_program.specs.Reading.{HasRead, KeepsWritten};
+ghost use Rattle.arc_program.specs.Ends.{KeepsTo};
+ghost use Rattle.arc_program.specs.inner.Inputs.{IsInput};
+ghost use Rattle.arc_program.specs.inner.Performed.{CarriesOut, Performs};
+
+use crate::commands::{WorkFault, work_on};
+use crate::inputs::{InputFault, load_instance};
+use crate::printing::put_lines;
+use crate::refusals::Refusal;
+use crate::status::Status;
+use arc_io::{IoFault, Shelf, Sink};
+use command_words::{Command, WordFault, read_words};
+use std::alloc::Global;
+use std::thread::Threads;
+
+/// The refusal that a fault of the words is.
+fn words_refusal(fault: WordFault) -> Refusal
+    ensures { (asked : Result Request WordFault) (shelf : ShelfSeen) (out : SinkSeen) → FaultIs asked fault → Performs asked shelf shelf out out (Err result) }
+{
+    match fault {
+        WordFault::Memory => Refusal::Memory,
+        fault => Refusal::Words { fault },
+    }
+}
+
+/// The refusal that a fault of the instance under this name is.
+fn input_refusal(name: String, fault: InputFault) -> Refusal
+    ensures { (request : Request) (before after : ShelfSeen) (out : SinkSeen) → string_bytes name ≡ name_of request → IsInput request (Err fault) before after → CarriesOut request before after out out (Err result) }
+{
+    match fault {
+        InputFault::Failed => Refusal::Unread { name },
+        InputFault::Long => Refusal::Long { name },
+        InputFault::Misread { fault } => Refusal::BadPlace { name, fault },
+        InputFault::Memory => Refusal::Memory,
+    }
+}
+
+/// The refusal that a fault of the work on the instance under this name is.
+fn work_refusal(name: String, fault: WorkFault) -> Refusal
+    ensures { (request : Request) (before after : ShelfSeen) (out : SinkSeen) (I : InstanceValue) → string_bytes name ≡ name_of request → IsRead request before.held I → HasRead (name_of request) before after → ((t : ℕ) → fault ≡ WorkFault.Large t → MakesGraphs request × IsTooLarge I t) → CarriesOut request before after out out (Err result) }
+{
+    match fault {
+        WorkFault::Large { t } => Refusal::Large { name, t },
+        WorkFault::Memory => Refusal::Memory,
+    }
+}
+
+/// Reads the instance that a command names, and prints its report.
+fn carry_out<R: Threads + Sync, H: Shelf, K: Sink>(
+    rt: &R,
+    alloc: Global,
+    command: Command,
+    shelf: &mut H,
+    out: &mut K,
+) -> Result<Status, Refusal>
+    ensures done { CarriesOut (request_of command) (shelf_seen H.Shelf shelf.old) (shelf_seen H.Shelf shelf.new) (sink_seen K.Sink out.old) (sink_seen K.Sink out.new) result }
+    ensures writes { KeepsWritten (shelf_seen H.Shelf shelf.old) (shelf_seen H.Shelf shelf.new) }
+{
+    let instance = match load_instance(alloc, shelf, &command) {
+        Ok(instance) => instance,
+        Err(fault) => return Err(input_refusal(command.into_name(), fault)),
+    };
+    let report = match work_on(rt, alloc, &command, &instance) {
+        Ok(report) => report,
+        Err(fault) => return Err(work_refusal(command.into_name(), fault)),
+    };
+    match put_lines(out, report.text.as_slice()) {
+        Ok(()) => Ok(report.status),
+        Err(IoFault::Failed) => Err(Refusal::Unwritten),
+        Err(IoFault::Memory) => Err(Refusal::Memory),
+    }
+}
+
+/// Does what the words ask for. The report is put on `out`; a refusal is given back.
+pub fn perform<R: Threads + Sync, H: Shelf, K: Sink>(
+    rt: &R,
+    alloc: Global,
+    words: &[String],
+    shelf: &mut H,
+    out: &mut K,
+) -> Result<Status, Refusal>
+    ensures done { Performs (words_of (map string_bytes words.now)) (shelf_seen H.Shelf shelf.old) (shelf_seen H.Shelf shelf.new) (sink_seen K.Sink out.old) (sink_seen K.Sink out.new) result }
+    ensures writes { KeepsTo (words_of (map string_bytes words.now)) (shelf_seen H.Shelf shelf.old) (shelf_seen H.Shelf shelf.new) }
+{
+    match read_words(alloc, words) {
+        Ok(command) => carry_out(rt, alloc, command, shelf, out),
+        Err(fault) => Err(words_refusal(fault)),
+    }
+}
