@@ -1,0 +1,4 @@
+pub mod Stepped
+pub mod StepLaw
+pub mod Reach
+pub mod Looked

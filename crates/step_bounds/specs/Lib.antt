@@ -1,0 +1,3 @@
+pub mod StepRows
+pub mod Steps
+pub mod inner
