@@ -2,3 +2,4 @@ pub mod RunLemmas
 pub mod DigitLemmas
 pub mod ReadBack
 pub mod Orders
+pub mod Places

@@ -5,10 +5,12 @@ use std::alloc::{AllocError, AllocFailed};
 use thiserror::Error;
 
 mod decimals;
+mod gates;
 mod listed;
 mod words;
 
 pub use decimals::{decimals_read_back, is_digits, number, push_bytes, push_number, push_signed};
+pub use gates::{Gate, NoGate};
 pub use listed::Listed;
 pub use words::{Token, Tokens, tokens_are_the_longest_runs};
 
@@ -42,6 +44,10 @@ pub const MAX_SPLITS: u32 = 20_000;
 pub const MAX_INSTANCE: usize = 67_108_864;
 /// Bytes of a certificate's text, at most.
 pub const MAX_CERT: u64 = 1_099_511_627_776;
+/// Bytes of a certificate's line, at most, its line feed aside.
+pub const MAX_LINE: usize = 33_554_432;
+/// Lines of a certificate that are checked side by side, at most.
+pub const MAX_BATCH: usize = 256;
 /// Threads that work at once, at most; at least 1.
 pub const MAX_WORKERS: u32 = 64;
 
