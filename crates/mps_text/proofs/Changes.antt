@@ -28,13 +28,13 @@ each_one {A} f x y h = ap (λ (o : Option A). onto_some o (Some [])) h
 column_line_gives : (r : Reading) (name : List ℕ) (rows values : List (List ℕ)) (columns changed : List ReadColumn) (targets : List ℕ) (numbers : List ℤ)
     → columns_with name r.columns ≡ Some columns → r.integers_open ≡ true → each_in (target_in r) rows ≡ Some targets → each_in value_in values ≡ Some numbers
     → change_at (length columns - 1) (with_values targets numbers) columns ≡ Some changed → column_line r name rows values ≡ Ok (record r { columns = changed })
-column_line_gives r name rows values columns changed targets numbers with whole target value change = rw (with, whole, target, value, change) refl
+column_line_gives r name rows values columns changed targets numbers with integers target value change = rw (with, integers, target, value, change) refl
 
 pub columns_line_gives : (r : Reading) (name row value : List ℕ) (columns changed : List ReadColumn) (target : ℕ) (number : ℤ)
     → bytes_eq row marker_word ≡ false → columns_with name r.columns ≡ Some columns → r.integers_open ≡ true → target_in r row ≡ Some target → value_in value ≡ Some number
     → change_at (length columns - 1) (with_values (target ∷ []) (number ∷ [])) columns ≡ Some changed → columns_line r (name ∷ row ∷ value ∷ []) ≡ Ok (record r { columns = changed })
-columns_line_gives r name row value columns changed target number other with whole place number_is change =
-    rw other (column_line_gives r name (row ∷ []) (value ∷ []) columns changed (target ∷ []) (number ∷ []) with whole (each_one (target_in r) row target place) (each_one value_in value number number_is) change)
+columns_line_gives r name row value columns changed target number other with integers place number_is change =
+    rw other (column_line_gives r name (row ∷ []) (value ∷ []) columns changed (target ∷ []) (number ∷ []) with integers (each_one (target_in r) row target place) (each_one value_in value number number_is) change)
 
 right_line_gives : (r : Reading) (name : List ℕ) (rows values : List (List ℕ)) (changed : List ReadRow) (places : List ℕ) (numbers : List ℤ)
     → is_name name ≡ true → each_in (λ row. place_of row (row_names r.rows)) rows ≡ Some places → each_in value_in values ≡ Some numbers

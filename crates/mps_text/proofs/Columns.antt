@@ -128,8 +128,8 @@ entries_lead objective rows before done c column e (f ∷ es) known named same n
     let first = entry_leads objective rows before done c column e (f ∷ es) known named lawful.0 with order in
     let assoc : c.entries ++ (e ∷ (f ∷ es)) ≡ (c.entries ++ e ∷ []) ++ (f ∷ es) = sym (append_assoc c.entries (e ∷ []) (f ∷ es)) in
     let behind = entries_lead objective rows (done ++ one ∷ []) done one column f es known named same new lawful.1 (columns_last column.name done one same new) (subst (λ (z : List Entry). AllPairs (λ d e. d.row < e.row) z) assoc order) in
-    let whole : with_entries one (f ∷ es) ≡ with_entries c (e ∷ f ∷ es) = ap (λ (z : List Entry). record c { entries = z }) (sym assoc) in
-    subst (λ (z : ReadColumn). Leads (columns_read objective rows before) (map (entry_line rows column) (e ∷ f ∷ es)) (columns_read objective rows (done ++ z ∷ []))) whole
+    let joined_entries : with_entries one (f ∷ es) ≡ with_entries c (e ∷ f ∷ es) = ap (λ (z : List Entry). record c { entries = z }) (sym assoc) in
+    subst (λ (z : ReadColumn). Leads (columns_read objective rows before) (map (entry_line rows column) (e ∷ f ∷ es)) (columns_read objective rows (done ++ z ∷ []))) joined_entries
     (leads_on (columns_read objective rows before) (columns_read objective rows (done ++ one ∷ [])) (columns_read objective rows (done ++ with_entries one (f ∷ es) ∷ [])) (entry_line rows column e ∷ []) (map (entry_line rows column) (f ∷ es)) first behind)
 
 -- a column that is read up to its cost

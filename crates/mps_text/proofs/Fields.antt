@@ -6,7 +6,7 @@ use Rattle.std.proofs.lemmas.Bool.Decides.{nat_tests}
 use Rattle.std.proofs.lemmas.List.{append-nil}
 use Rattle.arc_num.specs.Words.{is_white, onto_first}
 use Rattle.mps_text.specs.Written.{spaced, joined}
-use Rattle.mps_text.specs.Lines.{lines_of, fields_of, ends_field, parts_fields}
+use Rattle.text_lines.specs.Lines.{lines_of, fields_of, ends_field, parts_fields}
 use Rattle.mps_text.specs.Meaning.{is_visible, Reading, Judged, line_of, section_line, lines_read, goes_on}
 use Rattle.mps_text.proofs.Texts.{joined-append}
 use Rattle.mps_text.proofs.WrittenNumbers.{both, joint, IsField}

@@ -1,39 +1,27 @@
 -- The right sides and the bounds that a text gives.
 use Rattle.std.proofs.Common.{suc, ◌≡◌, ℕ, ◌-◌, Bool, true, false, List, [], ◌∷◌, ◌++◌, length, Option, Some, None, Ok, ℤ, inl, inr, refl, sym, ap, ◌∙◌, subst, arith}
-use Rattle.std.specs.Prelude.{◌&&◌, ◌||◌, is_some, codes, bytes_eq, map, flat_map, option_and_then, option_to_list, AllPairs, if◌then◌else◌, ◌⊎◌}
+use Rattle.std.specs.Prelude.{◌&&◌, ◌||◌, is_some, codes, bytes_eq, map, flat_map, option_and_then, option_to_list, if◌then◌else◌, ◌⊎◌}
 use Rattle.std.specs.Option.{option_or}
-use Rattle.flow_model.specs.declared.programs.Entry.{Entry}
 use Rattle.flow_model.specs.declared.programs.RowKind.{RowKind}
 use Rattle.flow_model.specs.Programs.{AreDistinct}
-use Rattle.mps_text.specs.declared.stages.Stage.{Stage}
-use Rattle.mps_text.specs.declared.stages.Stage.TheVariants.{Start, Named, Rows, Columns, Rights, Limits, Ended}
 use Rattle.mps_text.specs.declared.stages.BoundKind.{BoundKind}
 use Rattle.mps_text.specs.declared.stages.BoundKind.TheVariants.{Upper, Lower, Fixed}
 use Rattle.mps_text.specs.declared.parts.ReadRow.{ReadRow}
 use Rattle.mps_text.specs.declared.parts.ReadColumn.{ReadColumn}
-use Rattle.mps_text.specs.Meaning.{Reading, row_names, column_names, place_of, new_column, with_values, with_row, rows_line, columns_line, rights_line, bounds_line, value_in, bound_in, each_in, change_at, change_each, with_right, with_bound}
+use Rattle.mps_text.specs.Meaning.{Reading, row_names, column_names, place_of, new_column, with_values, with_row, columns_line, value_in, bound_in, each_in, change_at, change_each, with_right, with_bound}
 use Rattle.mps_text.specs.Given.{Cell, cells_of, first_given, right_at, bound_at}
 use Rattle.mps_text.proofs.NamePlaces.{same}
-use Rattle.mps_text.proofs.Steps.{same_bytes, row_taken, columns_taken, rights_taken, bound_taken, bound_word, cells_for, changed_there, IsObjective, IsNamedRow, IsMarkLine, AreValues}
-use Rattle.mps_text.proofs.Sound.{IsSound, IsApartFrom, same_by_values, name_by_bound, name_by_right, same_changed, each_some, list_is, bound_by, right_by}
-use Rattle.mps_text.proofs.Follow.{heading_word, added, IsFollowed}
-use Rattle.mps_text.proofs.GivenNames.{given_append, or_none, last_opened, columns_by_rows, rows_by_values}
-use Rattle.mps_text.proofs.GivenValues.{or_assoc, named, given_same, name_there, named_more, no_some, or_all, flat_given}
+use Rattle.mps_text.proofs.Steps.{columns_taken, cells_for, IsMarkLine, AreValues}
+use Rattle.mps_text.proofs.SideSteps.{rights_taken, bound_taken, bound_word, changed_there}
+use Rattle.mps_text.proofs.SoundParts.{IsApartFrom, same_by_values, name_by_bound, same_changed, each_some, list_is, bound_by}
+use Rattle.mps_text.proofs.SoundLines.{name_by_right}
+use Rattle.mps_text.proofs.Follow.{added, IsFollowed}
+use Rattle.mps_text.proofs.GivenRows.{rows_by_values}
+use Rattle.mps_text.proofs.GivenColumns.{given_append, or_none, last_opened, columns_by_rows}
+use Rattle.mps_text.proofs.NamedParts.{or_assoc, named, given_same, name_there, named_more, or_all, flat_given}
+use Rattle.mps_text.proofs.GivenValues.{no_some}
 
 -- Right sides.
-
-abbrev pub is_rights : Stage → Bool
-is_rights Rights = true
-is_rights stage = false
-
-rights_words : (stage : Stage) → bytes_eq (heading_word stage) (codes "RHS") ≡ is_rights stage
-rights_words Start = refl
-rights_words Named = refl
-rights_words Rows = refl
-rights_words Columns = refl
-rights_words Rights = refl
-rights_words Limits = refl
-rights_words Ended = refl
 
 abbrev pub right_in : List ℕ → ReadRow → Option ℤ
 right_in row x = named (λ (x : ReadRow). x.name) (λ (x : ReadRow). x.right) row x
@@ -111,12 +99,11 @@ pub behind_objective : (objective : Option (List ℕ)) (names : List (List ℕ))
 behind_objective None names h = h
 behind_objective (Some x) names h = (λ i j d lt small. h (suc i) (suc j) d (omega arith) (omega arith))
 
-pub rights_followed : (row : List ℕ) → IsFollowed (right_told row) (right_adds row) (codes "RHS") is_rights
+pub rights_followed : (row : List ℕ) → IsFollowed (right_told row) (right_adds row) (codes "RHS")
 rights_followed row = record {
-  words = rights_words;
   heading = (λ r stage. refl);
   rows = (λ r fields s sound at h. columns_by_rows (right_told row) (λ r name. refl) (λ r kind name. row_leaves row r kind name) r fields s h);
-  columns = (λ r fields s sound h. rows_by_values (right_told row) (λ r whole. refl) (λ r columns. refl) r fields s h);
+  columns = (λ r fields s sound h. rows_by_values (right_told row) (λ r integers. refl) (λ r columns. refl) r fields s h);
   rights = (λ r fields s sound h.
       let v = rights_taken r fields s h in
       ap (right_told row) (sym v.after)
@@ -129,19 +116,6 @@ pub rights_all : (row : List ℕ) (lines : List (List (List ℕ))) → added (ri
 rights_all row lines = or_all (right_gives row) None lines ∙ flat_given (right_at row) lines
 
 -- Bounds.
-
-abbrev pub is_limits : Stage → Bool
-is_limits Limits = true
-is_limits stage = false
-
-limits_words : (stage : Stage) → bytes_eq (heading_word stage) (codes "BOUNDS") ≡ is_limits stage
-limits_words Start = refl
-limits_words Named = refl
-limits_words Rows = refl
-limits_words Columns = refl
-limits_words Rights = refl
-limits_words Limits = refl
-limits_words Ended = refl
 
 abbrev pub bound_of : BoundKind → ReadColumn → Option ℕ
 bound_of Upper c = c.upper
@@ -256,9 +230,8 @@ values_leave k column r fields s h = by (columns_taken r fields s h)
         let kept = same_changed (bound_in_column k column) (with_values v.targets v.numbers) (length v.columns - 1) v.columns v.changed (λ c d gives. same_by_values (bound_in_column k column) (free k column) v.targets v.numbers c d gives) v.change in
         ap (bound_told k column) (sym v.after) ∙ (given_same (bound_in_column k column) v.columns v.changed kept ∙ last.given (unbounded k v.name column))
 
-pub bounds_followed : (k : BoundKind) (column : List ℕ) → IsFollowed (bound_told k column) (bound_adds k column) (codes "BOUNDS") is_limits
+pub bounds_followed : (k : BoundKind) (column : List ℕ) → IsFollowed (bound_told k column) (bound_adds k column) (codes "BOUNDS")
 bounds_followed k column = record {
-  words = limits_words;
   heading = (λ r stage. refl);
   rows = (λ r fields s sound at h. columns_by_rows (bound_told k column) (λ r name. refl) (λ r kind name. refl) r fields s h);
   columns = (λ r fields s sound h. values_leave k column r fields s h);

@@ -1,121 +1,26 @@
--- The values, right sides and bounds that a text gives.
-use Rattle.std.proofs.Common.{suc, zero, ◌≡◌, ◌≢◌, ℕ, ◌+◌, ◌-◌, ◌<◌, Bool, true, false, List, [], ◌∷◌, ◌++◌, length, get_or, Option, Some, None, Ok, ℤ, inl, inr, refl, sym, ap, ◌∙◌, subst, append_assoc, arith, length-append, cond}
-use Rattle.std.specs.Prelude.{◌&&◌, ◌||◌, ◌==◌, not, is_some, codes, bytes_eq, map, filter, flat_map, option_and_then, option_to_list, AllPairs, if◌then◌else◌, ◌⊎◌}
-use Rattle.std.specs.List.{AllByRecursion}
+-- The values of columns that a text gives.
+use Rattle.std.proofs.Common.{suc, zero, ◌≡◌, ◌≢◌, ℕ, ◌-◌, Bool, true, false, List, [], ◌∷◌, ◌++◌, length, get_or, Option, Some, None, Ok, ℤ, inl, inr, refl, sym, ap, ◌∙◌, subst, arith, length-append, cond}
+use Rattle.std.specs.Prelude.{◌&&◌, ◌||◌, ◌==◌, not, is_some, codes, bytes_eq, map, flat_map, option_and_then, option_to_list, if◌then◌else◌, ◌⊎◌}
 use Rattle.std.specs.Option.{option_or}
 use Rattle.std.proofs.lemmas.Bool.Decides.{nat_tests}
-use Rattle.std.proofs.lemmas.List.{append-nil, map-append, length-map}
-use Rattle.std.proofs.lemmas.List.Elements.{recursion_from_All}
+use Rattle.std.proofs.lemmas.List.{map-append, length-map}
 use Rattle.std.proofs.lemmas.List.Quantifiers.{position-Some}
 use Rattle.flow_model.specs.declared.programs.Entry.{Entry}
-use Rattle.flow_model.specs.declared.programs.RowKind.{RowKind}
 use Rattle.flow_model.specs.Programs.{AreDistinct}
-use Rattle.mps_text.specs.declared.stages.Stage.{Stage}
-use Rattle.mps_text.specs.declared.stages.Stage.TheVariants.{Start, Named, Rows, Columns, Rights, Limits, Ended}
+use Rattle.mps_text.specs.declared.stages.Stage.TheVariants.{Rows}
 use Rattle.mps_text.specs.declared.stages.BoundKind.{BoundKind}
 use Rattle.mps_text.specs.declared.stages.BoundKind.TheVariants.{Upper, Lower, Fixed}
-use Rattle.mps_text.specs.declared.parts.ReadRow.{ReadRow}
 use Rattle.mps_text.specs.declared.parts.ReadColumn.{ReadColumn}
-use Rattle.mps_text.specs.Meaning.{Reading, row_names, column_names, place_of, is_columns, target_in, has_entry, new_column, with_cost, with_entry, with_value, with_values, with_row, rows_line, columns_line, rights_line, bounds_line, value_in, bound_in, each_in, change_at, change_each, with_right, with_bound}
-use Rattle.mps_text.specs.Given.{Cell, cells_of, is_mark, first_given, cell_at, right_at, bound_at}
+use Rattle.mps_text.specs.Meaning.{Reading, column_names, place_of, target_in, has_entry, new_column, with_value, with_values, rows_line, columns_line, value_in, each_in, with_bound}
+use Rattle.mps_text.specs.Given.{Cell, cells_of, is_mark, first_given, cell_at}
 use Rattle.mps_text.proofs.NamePlaces.{same, seam}
-use Rattle.mps_text.proofs.Steps.{same_bytes, row_taken, columns_taken, rights_taken, bound_taken, bound_word, cells_for, changed_there, IsChange, IsObjective, IsNamedRow, IsMarkLine, AreValues, AreRights, IsBound}
-use Rattle.mps_text.proofs.Sound.{IsSound, is_behind_rows, names_in, IsApartFrom, same_by_values, name_by_values, name_by_bound, name_by_right, same_changed, sides_sound, values_small, each_some, list_is, opened_apart, bound_by}
-use Rattle.mps_text.proofs.Follow.{heading_word, added, IsFollowed}
-use Rattle.mps_text.proofs.GivenNames.{given_append, or_none, last_opened, columns_by_rows, rows_by_values, columns_words, value_lines}
-
--- Lists that are looked through.
-
-pub or_assoc : {B : Type 0} (a b c : Option B) → option_or (option_or a b) c ≡ option_or a (option_or b c)
-or_assoc None b c = refl
-or_assoc (Some x) b c = refl
-
--- what an element gives, where it has this name
-abbrev pub named : {A B : Type 0} → (A → List ℕ) → (A → Option B) → List ℕ → A → Option B
-named name give key x = if bytes_eq (name x) key then give x else None
-
-given_map : {A B : Type 0} (f : A → Option B) (xs : List A) → first_given (λ (o : Option B). o) (map f xs) ≡ first_given f xs
-given_map f [] = refl
-given_map {A} {B} f (x ∷ xs) = ap (option_or (f x)) (given_map f xs)
-
-pub given_same : {A B : Type 0} (f : A → Option B) (xs ys : List A) → map f ys ≡ map f xs → first_given f ys ≡ first_given f xs
-given_same {A} {B} f xs ys h = sym (given_map f ys) ∙ (ap (first_given (λ (o : Option B). o)) h ∙ given_map f xs)
-
--- one element that gives more
-pub given_changed : {A B : Type 0} (f : A → Option B) (more : Option B) (before : List A) (old new : A) (behind : List A) → f new ≡ option_or (f old) more → option_or more (first_given f behind) ≡ option_or (first_given f behind) more
-    → first_given f (before ++ new ∷ behind) ≡ option_or (first_given f (before ++ old ∷ behind)) more
-given_changed {A} {B} f more before old new behind gives turns =
-    let a = first_given f before in
-    let b = first_given f behind in
-    given_append f before (new ∷ behind)
-    ∙ (ap (λ (o : Option B). option_or a (option_or o b)) gives
-    ∙ (ap (option_or a) (or_assoc (f old) more b ∙ (ap (option_or (f old)) turns ∙ sym (or_assoc (f old) b more)))
-    ∙ (sym (or_assoc a (option_or (f old) b) more) ∙ ap (λ (o : Option B). option_or o more) (sym (given_append f before (old ∷ behind))))))
-
-pub apart_tail : (x : List ℕ) (xs : List (List ℕ)) → AreDistinct (x ∷ xs) → AreDistinct xs
-apart_tail x xs h i j d lt small = h (suc i) (suc j) d (omega arith) (omega arith)
-
-pub apart_behind : (xs : List (List ℕ)) (y : List ℕ) (ys : List (List ℕ)) → AreDistinct (xs ++ y ∷ ys) → AllByRecursion (λ z. y ≢ z) ys
-apart_behind [] y ys h = recursion_from_All (λ z. y ≢ z) ys (λ k d lt. h 0 (suc k) d (omega arith) (omega arith))
-apart_behind (x ∷ xs) y ys h = apart_behind xs y ys (apart_tail x (xs ++ y ∷ ys) h)
-
-pub none_named : {A B : Type 0} (name : A → List ℕ) (give : A → Option B) (key : List ℕ) (xs : List A) → AllByRecursion (λ z. key ≢ z) (map name xs) → first_given (named name give key) xs ≡ None
-none_named name give key [] h = refl
-none_named {A} {B} name give key (x ∷ xs) h = by (bytes_eq (name x) key) refl (none_named name give key xs h.1)
-  where
-    by : (b : Bool) → bytes_eq (name x) key ≡ b → first_given (named name give key) xs ≡ None → option_or (if b then give x else None) (first_given (named name give key) xs) ≡ None
-    by true e next = absurd (h.0 (sym (same_bytes (name x) key e)))
-    by false e next = next
-
--- no element behind one of this name gives anything
-behind_none : {A B : Type 0} (name : A → List ℕ) (give : A → Option B) (key : List ℕ) (before : List A) (old : A) (behind : List A) → AreDistinct (map name (before ++ old ∷ behind)) → name old ≡ key → first_given (named name give key) behind ≡ None
-behind_none {A} name give key before old behind apart is =
-    let split = map-append name before (old ∷ behind) in
-    none_named name give key behind (subst (λ (k : List ℕ). AllByRecursion (λ z. k ≢ z) (map name behind)) is (apart_behind (map name before) (name old) (map name behind) (subst AreDistinct split apart)))
-
--- the name of the element at a place
-pub name_there : {A : Type 0} (name : A → List ℕ) (before : List A) (old : A) (behind : List A) (key : List ℕ) (place : ℕ) → length before ≡ place → place_of key (map name (before ++ old ∷ behind)) ≡ Some place → key ≡ name old
-name_there {A} name before old behind key place at found =
-    let there = position-Some (bytes_eq key) (map name (before ++ old ∷ behind)) place [] found in
-    let split = map-append name before (old ∷ behind) in
-    let size : length (map name before) ≡ place = length-map before name ∙ at in
-    same_bytes key (get_or (map name (before ++ old ∷ behind)) place []) there.1
-    ∙ (ap (λ (z : List (List ℕ)). get_or z place []) split
-    ∙ (ap (λ (n : ℕ). get_or (map name before ++ name old ∷ map name behind) n []) (sym size) ∙ seam (map name before) (name old) (map name behind) []))
-
--- an element of this name, or of another, that gives more
-pub named_more : {A B : Type 0} (name : A → List ℕ) (give : A → Option B) (key : List ℕ) (before : List A) (old new : A) (behind : List A) (more : Option B)
-    → AreDistinct (map name (before ++ old ∷ behind)) → name new ≡ name old → (name old ≡ key → give new ≡ option_or (give old) more) → (bytes_eq (name old) key ≡ false → more ≡ None)
-    → first_given (named name give key) (before ++ new ∷ behind) ≡ option_or (first_given (named name give key) (before ++ old ∷ behind)) more
-named_more {A} {B} name give key before old new behind more apart kept here other = by (bytes_eq (name old) key) refl
-  where
-    f : A → Option B
-    f = named name give key
-
-    turns : (x : Option B) → first_given (named name give key) behind ≡ None ⊎ more ≡ None → option_or more (first_given (named name give key) behind) ≡ option_or (first_given (named name give key) behind) more
-    turns x (inl none) = ap (option_or more) none ∙ (or_none more ∙ ap (λ (o : Option B). option_or o more) (sym none))
-    turns x (inr none) = ap (λ (o : Option B). option_or o (first_given (named name give key) behind)) none ∙ (sym (or_none (first_given (named name give key) behind)) ∙ ap (option_or (first_given (named name give key) behind)) (sym none))
-
-    by : (b : Bool) → bytes_eq (name old) key ≡ b → first_given (named name give key) (before ++ new ∷ behind) ≡ option_or (first_given (named name give key) (before ++ old ∷ behind)) more
-    by true e =
-        let is = same_bytes (name old) key e in
-        let at_new : named name give key new ≡ give new = ap (λ (b : Bool). if b then give new else None) (ap (λ (z : List ℕ). bytes_eq z key) kept ∙ e) in
-        let at_old : named name give key old ≡ give old = ap (λ (b : Bool). if b then give old else None) e in
-        given_changed (named name give key) more before old new behind (at_new ∙ (here is ∙ ap (λ (o : Option B). option_or o more) (sym at_old))) (turns None (inl (behind_none name give key before old behind apart is)))
-    by false e =
-        let none = other e in
-        let at_new : named name give key new ≡ None = ap (λ (b : Bool). if b then give new else None) (ap (λ (z : List ℕ). bytes_eq z key) kept ∙ e) in
-        let at_old : named name give key old ≡ None = ap (λ (b : Bool). if b then give old else None) e in
-        given_changed (named name give key) more before old new behind (at_new ∙ (sym none ∙ ap (λ (o : Option B). option_or o more) (sym at_old))) (turns None (inr none))
-
--- lines that give one after the other
-pub or_all : {B : Type 0} (gives : List (List ℕ) → Option B) (o : Option B) (lines : List (List (List ℕ))) → added (λ (o : Option B) (fields : List (List ℕ)). option_or o (gives fields)) o lines ≡ option_or o (first_given gives lines)
-or_all gives o [] = sym (or_none o)
-or_all {B} gives o (fields ∷ lines) = or_all gives (option_or o (gives fields)) lines ∙ or_assoc o (gives fields) (first_given gives lines)
-
-pub flat_given : {A : Type 0} (f : Cell → Option A) (lines : List (List (List ℕ))) → first_given (λ (fields : List (List ℕ)). first_given f (cells_of fields)) lines ≡ first_given f (flat_map cells_of lines)
-flat_given f [] = refl
-flat_given {A} f (fields ∷ lines) = ap (option_or (first_given f (cells_of fields))) (flat_given f lines) ∙ sym (given_append f (cells_of fields) (flat_map cells_of lines))
+use Rattle.mps_text.proofs.Steps.{same_bytes, columns_taken, cells_for, IsMarkLine, AreValues}
+use Rattle.mps_text.proofs.SideSteps.{rights_taken, bound_taken, changed_there}
+use Rattle.mps_text.proofs.SoundParts.{IsSound, is_behind_rows, names_in, name_by_values, same_changed, values_small, each_some, list_is, bound_by}
+use Rattle.mps_text.proofs.SoundLines.{sides_sound, opened_apart}
+use Rattle.mps_text.proofs.Follow.{added, IsFollowed}
+use Rattle.mps_text.proofs.GivenColumns.{given_append, or_none, last_opened, columns_by_rows, value_lines}
+use Rattle.mps_text.proofs.NamedParts.{given_same, named, named_more, or_all, or_assoc}
 
 -- Values of columns.
 
@@ -298,7 +203,7 @@ values_added column row r fields s sound v = by (target_in r row) refl
         (λ is. value ∙ ap (λ (z : List ℕ). option_or (value_of_column t c.old) (first_given (cell_at z row) (cells_for v.name v.rows v.values))) (sym old_name ∙ is)) (λ e. other_column v.name column row v.rows v.values (ap (λ (z : List ℕ). bytes_eq z column) (sym old_name) ∙ e)) in
         ap (first_given (column_cell column t)) c.is ∙ (step ∙ ap (λ (o : Option ℤ). option_or o more) (ap (first_given (column_cell column t)) (sym c.was) ∙ last.given (fresh t)))
 
--- marks and values
+-- lines of marks and of values
 cells_added : (column row : List ℕ) (r : Reading) (fields : List (List ℕ)) (s : Reading) → IsSound r → columns_line r fields ≡ Ok s → cell_told column row s ≡ cell_adds column row (cell_told column row r) fields
 cells_added column row r fields s sound h = by (columns_taken r fields s h)
   where
@@ -333,9 +238,8 @@ bound_leaves column t k value c d h = by k h t
     by Fixed h zero = ap (column_cell column zero) (sym (bound_by ((is_some c.lower || is_some c.upper) || is_some c.fixed) (record c { fixed = Some value }) d h))
     by Fixed h (suc k) = ap (column_cell column (suc k)) (sym (bound_by ((is_some c.lower || is_some c.upper) || is_some c.fixed) (record c { fixed = Some value }) d h))
 
-pub cells_followed : (column row : List ℕ) → IsFollowed (cell_told column row) (cell_adds column row) (codes "COLUMNS") is_columns
+pub cells_followed : (column row : List ℕ) → IsFollowed (cell_told column row) (cell_adds column row) (codes "COLUMNS")
 cells_followed column row = record {
-  words = columns_words;
   heading = (λ r stage. refl);
   rows = (λ r fields s sound at h. before_columns column row r fields s sound at h);
   columns = (λ r fields s sound h. cells_added column row r fields s sound h);
@@ -349,9 +253,9 @@ cells_followed column row = record {
       ∙ ap (λ (f : ℕ → Option ℤ). option_and_then f (target_in r row)) (λ i t. given_same (column_cell column t) r.columns v.changed (same_changed (column_cell column t) (with_bound v.kind v.number) v.place r.columns v.changed (λ c d gives. bound_leaves column t v.kind v.number c d gives) v.change) i));
 }
 
-marks_left : (column row : List ℕ) (lines : List (List (List ℕ))) → first_given (cell_gives column row) lines ≡ first_given (cell_at column row) (flat_map cells_of (value_lines lines))
-marks_left column row [] = refl
-marks_left column row (fields ∷ lines) = by (is_mark fields) (marks_left column row lines)
+marks_give_nothing : (column row : List ℕ) (lines : List (List (List ℕ))) → first_given (cell_gives column row) lines ≡ first_given (cell_at column row) (flat_map cells_of (value_lines lines))
+marks_give_nothing column row [] = refl
+marks_give_nothing column row (fields ∷ lines) = by (is_mark fields) (marks_give_nothing column row lines)
   where
     by : (b : Bool) → first_given (cell_gives column row) lines ≡ first_given (cell_at column row) (flat_map cells_of (value_lines lines))
         → option_or (if b then None else first_given (cell_at column row) (cells_of fields)) (first_given (cell_gives column row) lines) ≡ first_given (cell_at column row) (flat_map cells_of (cond (not b) (fields ∷ value_lines lines) (value_lines lines)))
@@ -359,4 +263,4 @@ marks_left column row (fields ∷ lines) = by (is_mark fields) (marks_left colum
     by false next = ap (option_or (first_given (cell_at column row) (cells_of fields))) next ∙ sym (given_append (cell_at column row) (cells_of fields) (flat_map cells_of (value_lines lines)))
 
 pub cells_all : (column row : List ℕ) (lines : List (List (List ℕ))) → added (cell_adds column row) None lines ≡ first_given (cell_at column row) (flat_map cells_of (value_lines lines))
-cells_all column row lines = or_all (cell_gives column row) None lines ∙ marks_left column row lines
+cells_all column row lines = or_all (cell_gives column row) None lines ∙ marks_give_nothing column row lines

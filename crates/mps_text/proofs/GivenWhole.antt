@@ -1,36 +1,37 @@
 -- A program that a text means has what the lines of the text name and give.
 use Rattle.std.proofs.Common.{suc, zero, ◌≡◌, ◌≢◌, ℕ, ◌<◌, Bool, true, false, List, [], ◌∷◌, ◌++◌, length, get_or, Option, Some, None, Ok, ℤ, pos, negsuc, refl, sym, ap, ◌∙◌, subst, arith, cond}
 use Rattle.std.proofs.lemmas.Int.{ints}
-use Rattle.std.specs.Prelude.{◌&&◌, ◌||◌, ◌==◌, ◌+ℤ◌, not, nat_le, is_some, codes, bytes_eq, map, filter, flat_map, slice_get, unwrap_or, option_and_then, option_to_list, if◌then◌else◌}
+use Rattle.std.specs.Prelude.{◌||◌, ◌==◌, ◌+ℤ◌, not, nat_le, is_some, codes, bytes_eq, map, slice_get, unwrap_or, option_and_then, if◌then◌else◌}
 use Rattle.std.specs.List.{list_all, AllByRecursion}
 use Rattle.std.specs.Option.{option_or}
 use Rattle.std.proofs.lemmas.Bool.Decides.{nat_tests}
 use Rattle.std.proofs.lemmas.List.{length-map}
-use Rattle.std.proofs.lemmas.List.Elements.{All-from_recursion, recursion_from_All}
+use Rattle.std.proofs.lemmas.List.Elements.{All-from_recursion}
 use Rattle.flow_model.specs.declared.programs.Row.{Row}
 use Rattle.flow_model.specs.declared.programs.Entry.{Entry}
-use Rattle.flow_model.specs.declared.programs.Column.{Column}
-use Rattle.flow_model.specs.declared.programs.Program.{Program}
 use Rattle.flow_model.specs.Programs.{AreDistinct, entry_in}
 use Rattle.mps_text.specs.declared.stages.BoundKind.{BoundKind}
 use Rattle.mps_text.specs.declared.stages.BoundKind.TheVariants.{Upper, Lower, Fixed}
 use Rattle.mps_text.specs.declared.parts.ReadRow.{ReadRow}
 use Rattle.mps_text.specs.declared.parts.ReadColumn.{ReadColumn}
-use Rattle.mps_text.specs.Lines.{lines_of}
+use Rattle.text_lines.specs.Lines.{lines_of}
 use Rattle.mps_text.specs.Written.{is_zero, kind_letter}
-use Rattle.mps_text.specs.Meaning.{Reading, first_reading, row_names, column_names, place_of, target_in, is_ended, is_below, is_bounded, put_entry, in_row_order, row_of, column_of, program_of, lines_read}
-use Rattle.mps_text.specs.Given.{names_objective, section, first_given, each_once, column_cells, value_given, right_given, bound_given, HasBoundsOf, IsProgramOf}
+use Rattle.mps_text.specs.Meaning.{Reading, first_reading, row_names, place_of, target_in, is_ended, is_below, is_bounded, put_entry, in_row_order, row_of, column_of, program_of, lines_read}
+use Rattle.mps_text.specs.Given.{section, first_given, value_given, right_given, bound_given, HasBoundsOf, IsProgramOf}
 use Rattle.mps_text.specs.Laws.{MeaningsAreGiven}
 use Rattle.mps_text.proofs.NamePlaces.{same, place_at}
 use Rattle.mps_text.proofs.WrittenNumbers.{both}
-use Rattle.mps_text.proofs.Steps.{same_bytes, bound_word}
-use Rattle.mps_text.proofs.Sound.{IsSound, Apart, IsSoundColumn, names_in, first_sound, all_on}
-use Rattle.mps_text.proofs.Lawful.{IsRead, text_read, objective_is, row_names_are, column_names_are, behind_rows, filled}
+use Rattle.mps_text.proofs.Steps.{same_bytes}
+use Rattle.mps_text.proofs.SideSteps.{bound_word}
+use Rattle.mps_text.proofs.SoundParts.{IsSound, Apart, IsSoundColumn, names_in, all_on}
+use Rattle.mps_text.proofs.Sound.{first_sound}
+use Rattle.mps_text.proofs.Lawful.{text_read, objective_is, column_names_are, behind_rows, filled}
 use Rattle.mps_text.proofs.Follow.{follow}
-use Rattle.mps_text.proofs.GivenNames.{or_none, rows_told, row_adds, is_rows, row_fields, rows_followed, rows_all, objective_told, objective_adds, objective_followed, objective_all, columns_told, column_adds, columns_followed, columns_all}
-use Rattle.mps_text.proofs.GivenValues.{named, none_named, apart_behind, apart_tail, entry_at, value_of_column, column_cell, cell_told, cell_adds, cells_followed, cells_all}
-use Rattle.mps_text.proofs.GivenSides.{right_in, right_told, right_adds, is_rights, rights_followed, rights_all, bound_of, bound_in_column, bound_told, bound_adds, is_limits, bounds_followed, bounds_all, behind_objective}
-use Rattle.mps_text.specs.Meaning.{is_columns}
+use Rattle.mps_text.proofs.GivenRows.{rows_told, row_adds, row_fields, rows_followed, rows_all, objective_told, objective_adds, objective_followed, objective_all}
+use Rattle.mps_text.proofs.GivenColumns.{or_none, columns_told, column_adds, columns_followed, columns_all}
+use Rattle.mps_text.proofs.NamedParts.{named, none_named, apart_behind, apart_tail}
+use Rattle.mps_text.proofs.GivenValues.{entry_at, value_of_column, column_cell, cell_told, cell_adds, cells_followed, cells_all}
+use Rattle.mps_text.proofs.GivenSides.{right_in, right_told, right_adds, rights_followed, rights_all, bound_of, bound_in_column, bound_told, bound_adds, bounds_followed, bounds_all, behind_objective}
 
 -- Elements by their names.
 
@@ -131,16 +132,16 @@ rows_named (row ∷ rows) = ap (λ (z : List (List (List ℕ))). (kind_letter ro
 
 values_are : (text : List ℕ) (r : Reading) → lines_read 1 first_reading (lines_of text) ≡ Ok r → (column row : List ℕ) → cell_told column row r ≡ value_given text column row
 values_are text r read column row =
-    follow (cell_told column row) (cell_adds column row) (codes "COLUMNS") is_columns (cells_followed column row) 1 first_reading (lines_of text) r first_sound read
+    follow (cell_told column row) (cell_adds column row) (codes "COLUMNS") (cells_followed column row) 1 first_reading (lines_of text) r first_sound read
     ∙ cells_all column row (section (codes "COLUMNS") text)
 
 rights_are : (text : List ℕ) (r : Reading) → lines_read 1 first_reading (lines_of text) ≡ Ok r → (row : List ℕ) → right_told row r ≡ right_given text row
 rights_are text r read row =
-    follow (right_told row) (right_adds row) (codes "RHS") is_rights (rights_followed row) 1 first_reading (lines_of text) r first_sound read ∙ rights_all row (section (codes "RHS") text)
+    follow (right_told row) (right_adds row) (codes "RHS") (rights_followed row) 1 first_reading (lines_of text) r first_sound read ∙ rights_all row (section (codes "RHS") text)
 
 bounds_are : (text : List ℕ) (r : Reading) → lines_read 1 first_reading (lines_of text) ≡ Ok r → (k : BoundKind) (column : List ℕ) → bound_told k column r ≡ bound_given text (bound_word k) column
 bounds_are text r read k column =
-    follow (bound_told k column) (bound_adds k column) (codes "BOUNDS") is_limits (bounds_followed k column) 1 first_reading (lines_of text) r first_sound read ∙ bounds_all k column (section (codes "BOUNDS") text)
+    follow (bound_told k column) (bound_adds k column) (codes "BOUNDS") (bounds_followed k column) 1 first_reading (lines_of text) r first_sound read ∙ bounds_all k column (section (codes "BOUNDS") text)
 
 row_there : (rows : List ReadRow) (k : ℕ) (row : Row) → slice_get (map row_of rows) k ≡ Some row → (k < length rows) × (get_or (row_names rows) k [] ≡ row.name)
 row_there [] k row h = absurd (cc)
@@ -217,9 +218,9 @@ entries_each text r read sound ended k row h =
 given_by : (text : List ℕ) (r : Reading) → lines_read 1 first_reading (lines_of text) ≡ Ok r → IsSound r → is_ended r.stage ≡ true → IsProgramOf text (program_of r)
 given_by text r read sound ended =
     let lines = lines_of text in
-    let rows = follow rows_told row_adds (codes "ROWS") is_rows rows_followed 1 first_reading lines r first_sound read ∙ rows_all [] (section (codes "ROWS") text) in
-    let objective = follow objective_told objective_adds (codes "ROWS") is_rows objective_followed 1 first_reading lines r first_sound read ∙ objective_all [] (section (codes "ROWS") text) in
-    let columns = follow columns_told column_adds (codes "COLUMNS") is_columns columns_followed 1 first_reading lines r first_sound read ∙ columns_all (section (codes "COLUMNS") text) in
+    let rows = follow rows_told row_adds (codes "ROWS") rows_followed 1 first_reading lines r first_sound read ∙ rows_all [] (section (codes "ROWS") text) in
+    let objective = follow objective_told objective_adds (codes "ROWS") objective_followed 1 first_reading lines r first_sound read ∙ objective_all [] (section (codes "ROWS") text) in
+    let columns = follow columns_told column_adds (codes "COLUMNS") columns_followed 1 first_reading lines r first_sound read ∙ columns_all (section (codes "COLUMNS") text) in
     let first = targets_are r sound ended 0 (omega arith) in
     record {
       objective = sym objective ∙ ap (λ (z : List (List ℕ)). map (λ name. codes "N" ∷ name ∷ []) z) (objective_is r.objective (behind_rows r ended sound));

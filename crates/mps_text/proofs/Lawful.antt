@@ -1,13 +1,11 @@
 -- A program that a text means keeps the rules.
-use Rattle.std.proofs.Common.{suc, zero, ◌≡◌, ◌≢◌, ℕ, ◌<◌, ◌≤◌, ◌^◌, Bool, true, false, List, [], ◌∷◌, ◌++◌, length, Option, Some, None, Result, Ok, Err, ℤ, pos, negsuc, refl, sym, ap, ◌∙◌, subst, arith, cond}
-use Rattle.std.specs.Prelude.{◌&&◌, ◌||◌, ◌==◌, not, nat_le, nat_abs, is_none, is_some, map, filter, unwrap_or, option_to_list, AllPairs, if◌then◌else◌}
+use Rattle.std.proofs.Common.{◌≡◌, ◌≢◌, ℕ, ◌<◌, ◌≤◌, ◌^◌, Bool, true, false, List, [], ◌∷◌, ◌++◌, length, Option, Some, None, Result, Ok, Err, ℤ, pos, refl, sym, ap, ◌∙◌, subst, arith, cond}
+use Rattle.std.specs.Prelude.{◌||◌, not, nat_le, is_none, is_some, map, filter, unwrap_or, option_to_list, AllPairs, if◌then◌else◌}
 use Rattle.std.specs.List.{list_all, AllByRecursion}
 use Rattle.std.proofs.lemmas.Bool.Decides.{nat_tests}
 use Rattle.std.proofs.lemmas.List.{length-map}
 use Rattle.std.proofs.lemmas.List.Elements.{All-from_recursion}
-use Rattle.flow_model.specs.declared.programs.Row.{Row}
 use Rattle.flow_model.specs.declared.programs.Entry.{Entry}
-use Rattle.flow_model.specs.declared.programs.Column.{Column}
 use Rattle.flow_model.specs.declared.programs.Program.{Program}
 use Rattle.flow_model.specs.Programs.{IsName, IsNumber, IsRow, IsEntry, IsColumn, IsProgram, AreDistinct}
 use Rattle.flow_model.specs.Programs as program
@@ -16,13 +14,14 @@ use Rattle.mps_text.specs.declared.stages.Stage.{Stage}
 use Rattle.mps_text.specs.declared.stages.Stage.TheVariants.{Start, Named, Rows, Columns, Rights, Limits, Ended}
 use Rattle.mps_text.specs.declared.parts.ReadRow.{ReadRow}
 use Rattle.mps_text.specs.declared.parts.ReadColumn.{ReadColumn}
-use Rattle.mps_text.specs.Lines.{lines_of}
+use Rattle.text_lines.specs.Lines.{lines_of}
 use Rattle.mps_text.specs.Written.{is_zero}
 use Rattle.mps_text.specs.Meaning.{Reading, first_reading, row_names, column_names, is_ended, is_below, is_bounded, put_entry, in_row_order, row_of, column_of, program_of, ends_with, lines_read, mps_meaning}
 use Rattle.mps_text.specs.Laws.{MeaningsKeepTheRules}
 use Rattle.mps_text.proofs.WrittenNumbers.{both}
-use Rattle.mps_text.proofs.WorkedProgram.{rise_none, rise_cons}
-use Rattle.mps_text.proofs.Sound.{IsSmall, IsSmallBound, IsGiven, Apart, IsSoundColumn, IsSound, IsSoundEnd, names_in, is_behind_rows, all_on, all_behind, lines_sound, first_sound}
+use Rattle.mps_text.proofs.Rules.{rise_none, rise_cons}
+use Rattle.mps_text.proofs.SoundParts.{IsSmall, IsSmallBound, IsGiven, Apart, IsSoundColumn, IsSound, names_in, is_behind_rows, all_on, all_behind}
+use Rattle.mps_text.proofs.Sound.{lines_sound, first_sound}
 
 -- what is read where a text means a program
 pub record IsRead (text : List ℕ) (p : Program) : Type 0 where

@@ -5,7 +5,7 @@ use Rattle.std.specs.List.{position_or_len, list_any}
 use Rattle.std.proofs.lemmas.List.{length-map, map-append}
 use Rattle.indexmap.specs.IndexSet.{insert_key}
 use Rattle.mps_text.specs.Meaning.{place_of}
-use Rattle.mps_text.proofs.Splits.{place_none}
+use Rattle.arc_num.proofs.Places.{place_none}
 
 len_map : {X Y : Type 0} (p : Y → Bool) (f : X → Y) (xs : List X) → position_or_len p (map f xs) ≡ position_or_len (λ x. p (f x)) xs
 len_map p f [] = refl

@@ -9,7 +9,7 @@ use Rattle.mps_text.specs.declared.reader.LineFault.TheVariants.{Bad, Memory}
 use Rattle.mps_text.specs.declared.parts.ReadRow.{ReadRow}
 use Rattle.mps_text.specs.declared.parts.ReadColumn.{ReadColumn}
 use Rattle.mps_text.specs.Meaning.{Reading, row_names, place_of, is_name, with_right, right_line, gives, value_in, each_in, change_at, change_each, with_value, with_values, target_in, columns_with, column_line}
-use Rattle.mps_text.specs.declared.reader.Reader.{Reader}
+use Rattle.mps_text.specs.declared.state.Reader.{Reader}
 use Rattle.mps_text.specs.inner.Readers.{reading_of, KeepsAll, KeepsColumns, Judges, Finds, opened}
 
 set_there : {A : Type 0} (xs : List A) (i : ℕ) (x y : A) → slice_get xs i ≡ Some x → slice_get (set xs i y) i ≡ Some y
@@ -50,14 +50,14 @@ values_both i columns one t u v w h =
 column_reads : (r : Reading) (name : List ℕ) (rows values : List (List ℕ)) (columns : List ReadColumn) (targets : List ℕ) (numbers : List ℤ)
     → columns_with name r.columns ≡ Some columns → r.integers_open ≡ true → each_in (target_in r) rows ≡ Some targets → each_in value_in values ≡ Some numbers
     → column_line r name rows values ≡ gives (change_at (length columns - 1) (with_values targets numbers) columns) cause.Twice (λ changed. Ok (record r { columns = changed }))
-column_reads r name rows values columns targets numbers with whole target number = rw (with, whole, target, number) refl
+column_reads r name rows values columns targets numbers with integers target number = rw (with, integers, target, number) refl
 
 pub two_judged : (r after : Reading) (name : List ℕ) (rows values : List (List ℕ)) (columns one two : List ReadColumn) (t u : ℕ) (v w : ℤ) (result : Result (Unit {0}) LineFault)
     → columns_with name r.columns ≡ Some columns → r.integers_open ≡ true → each_in (target_in r) rows ≡ Some (t ∷ u ∷ []) → each_in value_in values ≡ Some (v ∷ w ∷ [])
     → change_at (length columns - 1) (with_value t v) columns ≡ Some one → length one ≡ length columns
     → Finds (opened result two) (change_at (length one - 1) (with_value u w) one) cause.Twice → after ≡ record r { columns = two } → Judges result (column_line r name rows values) after
-two_judged r after name rows values columns one two t u v w result with whole target number first size second same =
-    let reads = column_reads r name rows values columns (t ∷ u ∷ []) (v ∷ w ∷ []) with whole target number in
+two_judged r after name rows values columns one two t u v w result with integers target number first size second same =
+    let reads = column_reads r name rows values columns (t ∷ u ∷ []) (v ∷ w ∷ []) with integers target number in
     let steps : change_at (length columns - 1) (with_values (t ∷ u ∷ []) (v ∷ w ∷ [])) columns ≡ change_at (length one - 1) (with_value u w) one =
     values_both (length columns - 1) columns one t u v w first ∙ ap (λ (n : ℕ). change_at (n - 1) (with_value u w) one) (sym size) in
     by result second (reads ∙ ap (λ (o : Option (List ReadColumn)). gives o cause.Twice (λ changed. Ok (record r { columns = changed }))) steps)

@@ -5,7 +5,8 @@ use Rattle.flow_model.specs.declared.programs.Row.{Row}
 use Rattle.flow_model.specs.declared.programs.Column.{Column}
 use Rattle.flow_model.specs.declared.programs.Program.{Program}
 use Rattle.flow_model.specs.Programs.{marker_word, entry_in, column_names}
-use Rattle.mps_text.specs.Lines.{lines_of, fields_of, is_skipped, is_indented}
+use Rattle.text_lines.specs.Lines.{lines_of, fields_of, is_indented}
+use Rattle.mps_text.specs.Skipped.{is_skipped}
 use Rattle.mps_text.specs.Written.{kind_letter}
 use Rattle.mps_text.specs.Meaning.{value_in, bound_in}
 

@@ -1,5 +1,5 @@
 pub mod Written
-pub mod Lines
+pub mod Skipped
 pub mod Meaning
 pub mod inner
 pub mod Worked

@@ -20,7 +20,8 @@ use Rattle.mps_text.specs.declared.stages.BoundKind.TheVariants.{Upper, Lower, F
 use Rattle.mps_text.specs.declared.parts.ReadRow.{ReadRow}
 use Rattle.mps_text.specs.declared.parts.ReadColumn.{ReadColumn}
 use Rattle.mps_text.specs.Written.{is_zero}
-use Rattle.mps_text.specs.Lines.{lines_of, fields_of, is_skipped, is_indented}
+use Rattle.text_lines.specs.Lines.{lines_of, fields_of, is_indented}
+use Rattle.mps_text.specs.Skipped.{is_skipped}
 
 -- what is read so far: the heading that was read last, whether columns of whole numbers may stand here, the name of the objective, the
 -- rows and the columns

@@ -1,23 +1,10 @@
 //! Lines of a known number of fields.
 
 ghost use Rattle.std.specs.Prelude.{◌≡◌, ◌≢◌, [], ◌∷◌, length, None, MatchOption, IfSome};
-ghost use Rattle.mps_text.specs.Lines.{fields_of};
+ghost use Rattle.text_lines.specs.Lines.{fields_of};
 ghost use Rattle.mps_text.specs.inner.Counts.{fields_in, IsFirstPair};
 
-use crate::split::next_field;
-
-/// The fields of a line of two.
-pub(crate) fn two_fields(line: &[u8]) -> Option<(&[u8], &[u8])>
-    ensures { MatchOption result (length (fields_of line.now) ≢ 2) (λ x. fields_of line.now ≡ x.0.now ∷ x.1.now ∷ []) }
-{
-    let (first, rest) = next_field(line);
-    let (second, rest) = next_field(rest);
-    let (third, _) = next_field(rest);
-    if first.is_empty() || second.is_empty() || !third.is_empty() {
-        return None;
-    }
-    Some((first, second))
-}
+use text_lines::next_field;
 
 /// The four fields of a line of bounds.
 #[derive(Clone, Copy)]

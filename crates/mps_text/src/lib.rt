@@ -11,8 +11,9 @@ mod read;
 mod reader;
 mod row_lines;
 mod side_lines;
-mod split;
+mod skipped_lines;
 mod stages;
+mod state;
 mod values;
 mod write;
 

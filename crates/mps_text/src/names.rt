@@ -1,6 +1,6 @@
 //! Names and their places.
 
-ghost use Rattle.std.specs.Prelude.{◌≡◌, ℕ, [], ◌∷◌, ◌++◌, length, map, None, OnOk};
+ghost use Rattle.std.specs.Prelude.{◌≡◌, ℕ, [], ◌∷◌, ◌++◌, length, map, None, OnOk, OnErr};
 ghost use Rattle.mps_text.specs.Meaning.{place_of};
 
 use arc_num::Memory;
@@ -41,7 +41,8 @@ impl<'a> Names<'a> {
     /// One more name.
     pub(crate) fn add(&mut self, name: &'a [u8]) -> Result<(), Memory>
         requires { place_of name.now self.old ≡ None }
-        ensures { OnOk result (self.new ≡ self.old ++ name.now ∷ []) }
+        ensures ok { OnOk result (self.new ≡ self.old ++ name.now ∷ []) }
+        ensures err { OnErr result (self.new ≡ self.old) }
     {
         self.set.insert(name)?;
         Ok(())

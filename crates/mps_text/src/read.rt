@@ -4,19 +4,21 @@ ghost use Rattle.std.specs.Prelude.{◌≡◌, ◌⊎◌, ℕ, ◌+◌, ◌<◌,
 ghost use Rattle.std.specs.List.Sorted.{IsSortedByKey, IsStableByKey};
 ghost use Rattle.std.specs.Ordering.{nat_cmp};
 ghost use Rattle.flow_model.specs.Programs.{IsProgram};
-ghost use Rattle.mps_text.specs.Lines.{lines_of, fields_of};
+ghost use Rattle.text_lines.specs.Lines.{lines_of, fields_of};
 ghost use Rattle.mps_text.specs.Meaning.{first_reading, section_line, line_of, lines_read, in_row_order, row_of, column_of, program_of, mps_meaning};
 ghost use Rattle.mps_text.specs.Written.{is_zero};
-ghost use Rattle.mps_text.specs.inner.Readers.{reading_of, IsKept, Judges, Reads};
+ghost use Rattle.mps_text.specs.inner.Readers.{reading_of, Judges, Reads};
 
 use crate::faults::{MpsCause, MpsFault};
 use crate::parts::{ReadColumn, ReadRow};
-use crate::reader::{LineFault, Reader, is_ended};
-use crate::split::{indented, skipped, split_line};
+use crate::reader::{LineFault, is_ended};
+use crate::skipped_lines::is_skipped;
 use crate::stages::Stage;
+use crate::state::Reader;
 use arc_num::{Listed, Memory};
 use flow_model::{Column, Entry, Name, Program, Row};
 use std::alloc::Global;
+use text_lines::{is_indented, split_line};
 
 /// The program that a text means, or the first line at fault with its first cause.
 pub fn read_mps(alloc: Global, text: &[u8]) -> Result<Program, MpsFault>
@@ -33,7 +35,6 @@ pub fn read_mps(alloc: Global, text: &[u8]) -> Result<Program, MpsFault>
 impl<'a> Reader<'a> {
     fn read(&mut self, alloc: Global, text: &'a [u8]) -> Result<(), MpsFault>
         requires first { reading_of self.old ≡ first_reading }
-        requires kept { IsKept self.old }
         requires small { length text.now < 2 ^ 32 }
         ensures { Reads result (lines_read 1 first_reading (lines_of text.now)) (reading_of self.new) }
     {
@@ -59,16 +60,14 @@ impl<'a> Reader<'a> {
     }
 
     fn line(&mut self, alloc: Global, line: &'a [u8]) -> Result<(), LineFault>
-        requires kept { IsKept self.old }
         requires small { length self.old.rows.items < 2 ^ 32 }
         ensures judged { Judges result (line_of (reading_of self.old) line.now) (reading_of self.new) }
-        ensures kept { OnOk result (IsKept self.new) }
         ensures grows { length self.new.rows.items ≤ length self.old.rows.items + 1 }
     {
-        if skipped(line) {
+        if is_skipped(line) {
             return Ok(());
         }
-        if indented(line) {
+        if is_indented(line) {
             self.section_line(alloc, line)
         } else {
             self.heading(line)
@@ -76,10 +75,8 @@ impl<'a> Reader<'a> {
     }
 
     fn section_line(&mut self, alloc: Global, line: &'a [u8]) -> Result<(), LineFault>
-        requires kept { IsKept self.old }
         requires small { length self.old.rows.items < 2 ^ 32 }
         ensures judged { Judges result (section_line self.old.stage (reading_of self.old) (fields_of line.now)) (reading_of self.new) }
-        ensures kept { OnOk result (IsKept self.new) }
         ensures grows { length self.new.rows.items ≤ length self.old.rows.items + 1 }
     {
         match self.stage {

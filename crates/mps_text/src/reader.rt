@@ -2,18 +2,18 @@
 
 ghost use Rattle.std.specs.Prelude.{◌≡◌, ℕ, ◌+◌, ◌<◌, ◌≤◌, ◌^◌, length, OnOk, Ok, Err};
 ghost use Rattle.std.specs.List.{list_all};
-ghost use Rattle.mps_text.specs.Lines.{fields_of};
+ghost use Rattle.text_lines.specs.Lines.{fields_of};
 ghost use Rattle.mps_text.specs.Meaning.{first_reading, follows, word_alone, stage_in, is_columns, is_ended, is_bounded, begins, heading, section_line, line_of, target_in};
-ghost use Rattle.mps_text.specs.inner.Readers.{reading_of, at_line, IsKept, Judges};
+ghost use Rattle.mps_text.specs.inner.Readers.{reading_of, at_line, Judges};
 
 use crate::faults::{MpsCause, MpsFault};
 use crate::names::Names;
-use crate::parts::{ReadColumn, ReadRow};
-use crate::split::next_field;
+use crate::parts::ReadColumn;
 use crate::stages::Stage;
+use crate::state::Reader;
 use arc_num::Memory;
-use flow_model::Name;
 use std::alloc::Global;
+use text_lines::next_field;
 
 /// Why a line was not taken.
 #[derive(Clone, Copy, Debug)]
@@ -45,24 +45,9 @@ impl From<Memory> for LineFault {
     }
 }
 
-/// What is read so far. The names are also kept by themselves, to be found fast; each row has the number of the last
-/// column with a value in it, which tells at once whether the column that is read has one there.
-#[derive(Drop)]
-pub(crate) struct Reader<'a> {
-    pub(crate) stage: Stage,
-    pub(crate) integers_open: bool,
-    pub(crate) objective: Option<Name>,
-    pub(crate) row_names: Names<'a>,
-    pub(crate) rows: Vec<ReadRow>,
-    pub(crate) last_columns: Vec<usize>,
-    pub(crate) column_names: Names<'a>,
-    pub(crate) columns: Vec<ReadColumn>,
-}
-
 impl<'a> Reader<'a> {
     pub(crate) fn new(alloc: Global) -> Self
         ensures first { reading_of result ≡ first_reading }
-        ensures kept { IsKept result }
     {
         Reader {
             stage: Stage::Start,
@@ -78,9 +63,7 @@ impl<'a> Reader<'a> {
 
     /// A heading.
     pub(crate) fn heading(&mut self, line: &[u8]) -> Result<(), LineFault>
-        requires kept { IsKept self.old }
         ensures judged { Judges result (heading (reading_of self.old) (fields_of line.now)) (reading_of self.new) }
-        ensures kept { OnOk result (IsKept self.new) }
         ensures grows { length self.new.rows.items ≤ length self.old.rows.items }
     {
         match stage_of(line) {
@@ -90,9 +73,7 @@ impl<'a> Reader<'a> {
     }
 
     fn begin(&mut self, stage: Stage) -> Result<(), LineFault>
-        requires kept { IsKept self.old }
         ensures judged { Judges result (begins (reading_of self.old) stage) (reading_of self.new) }
-        ensures kept { OnOk result (IsKept self.new) }
         ensures grows { length self.new.rows.items ≤ length self.old.rows.items }
     {
         if !follows(self.stage, stage) {

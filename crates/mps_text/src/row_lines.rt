@@ -1,27 +1,26 @@
 //! Lines of the rows.
 
 ghost use Rattle.std.specs.Prelude.{◌≡◌, ℕ, ◌+◌, ◌<◌, ◌≤◌, [], ◌∷◌, length, None, OnOk, Ok, Err};
-ghost use Rattle.mps_text.specs.Lines.{fields_of};
+ghost use Rattle.text_lines.specs.Lines.{fields_of};
 ghost use Rattle.mps_text.specs.Meaning.{place_of, row_names, kind_in, target_in, is_new_name, with_row, objective_line, row_named, rows_line};
-ghost use Rattle.mps_text.specs.inner.Readers.{reading_of, IsKept, Judges};
+ghost use Rattle.mps_text.specs.inner.Readers.{reading_of, Judges};
 
-use crate::counts::two_fields;
 use crate::faults::MpsCause;
 use crate::parts::ReadRow;
-use crate::reader::{LineFault, Reader};
+use crate::reader::LineFault;
 use crate::stages::Stage;
-use crate::values::keeps_rules;
+use crate::state::Reader;
+use crate::values::{keeps_rules, name_of};
 use arc_num::Memory;
-use flow_model::{Name, RowKind};
+use flow_model::RowKind;
 use std::alloc::Global;
+use text_lines::two_fields;
 
 impl<'a> Reader<'a> {
     /// A line of the rows.
     pub(crate) fn rows_line(&mut self, alloc: Global, line: &'a [u8]) -> Result<(), LineFault>
-        requires kept { IsKept self.old }
         requires stage { self.old.stage ≡ Stage.Rows }
         ensures judged { Judges result (rows_line (reading_of self.old) (fields_of line.now)) (reading_of self.new) }
-        ensures kept { OnOk result (IsKept self.new) }
         ensures grows { length self.new.rows.items ≤ length self.old.rows.items + 1 }
     {
         match two_fields(line) {
@@ -31,10 +30,8 @@ impl<'a> Reader<'a> {
     }
 
     fn named_line(&mut self, alloc: Global, kind: &[u8], name: &'a [u8]) -> Result<(), LineFault>
-        requires kept { IsKept self.old }
         requires stage { self.old.stage ≡ Stage.Rows }
         ensures judged { Judges result (rows_line (reading_of self.old) (kind.now ∷ name.now ∷ [])) (reading_of self.new) }
-        ensures kept { OnOk result (IsKept self.new) }
         ensures grows { length self.new.rows.items ≤ length self.old.rows.items + 1 }
     {
         if kind == b"N".as_slice() {
@@ -47,9 +44,7 @@ impl<'a> Reader<'a> {
     }
 
     fn objective_line(&mut self, alloc: Global, name: &[u8]) -> Result<(), LineFault>
-        requires kept { IsKept self.old }
         ensures judged { Judges result (objective_line (reading_of self.old) name.now) (reading_of self.new) }
-        ensures kept { OnOk result (IsKept self.new) }
         ensures grows { self.new.rows.items ≡ self.old.rows.items }
     {
         if self.objective.is_some() {
@@ -58,20 +53,13 @@ impl<'a> Reader<'a> {
         if !self.is_new(name) {
             return Err(LineFault::Bad(MpsCause::Name));
         }
-        match Vec::from_slice(alloc, name) {
-            Ok(bytes) => {
-                self.objective = Some(Name::new(bytes));
-                Ok(())
-            }
-            Err(_) => Err(LineFault::Memory),
-        }
+        self.objective = Some(name_of(alloc, name)?);
+        Ok(())
     }
 
     fn row(&mut self, alloc: Global, kind: RowKind, name: &'a [u8]) -> Result<(), LineFault>
-        requires kept { IsKept self.old }
         requires stage { self.old.stage ≡ Stage.Rows }
         ensures judged { Judges result (row_named (reading_of self.old) name.now kind) (reading_of self.new) }
-        ensures kept { OnOk result (IsKept self.new) }
         ensures grows { length self.new.rows.items ≤ length self.old.rows.items + 1 }
     {
         if !self.is_new(name) {
@@ -82,26 +70,25 @@ impl<'a> Reader<'a> {
     }
 
     fn add_row(&mut self, alloc: Global, kind: RowKind, name: &'a [u8]) -> Result<(), Memory>
-        requires kept { IsKept self.old }
         requires stage { self.old.stage ≡ Stage.Rows }
         requires new { place_of name.now (row_names self.old.rows.items) ≡ None }
         ensures added { OnOk result (reading_of self.new ≡ with_row (reading_of self.old) kind name.now) }
-        ensures kept { OnOk result (IsKept self.new) }
         ensures grows { length self.new.rows.items ≤ length self.old.rows.items + 1 }
     {
         let row = ReadRow {
-            name: Name::new(Vec::from_slice(alloc, name)?),
+            name: name_of(alloc, name)?,
             kind,
             right: None,
         };
+        self.last_columns.reserve(1)?;
+        self.rows.reserve(1)?;
         self.row_names.add(name)?;
-        self.last_columns.push(0)?;
-        self.rows.push(row)?;
+        self.last_columns.push(0).unwrap();
+        self.rows.push(row).unwrap();
         Ok(())
     }
 
     fn is_new(&self, name: &[u8]) -> bool
-        requires kept { IsKept self.now }
         ensures { result ≡ is_new_name (reading_of self.now) name.now }
     {
         keeps_rules(name) && self.target(name).is_none()
@@ -109,7 +96,6 @@ impl<'a> Reader<'a> {
 
     /// The place of a name: first the objective, where there is one, then the rows.
     pub(crate) fn target(&self, name: &[u8]) -> Option<usize>
-        requires kept { IsKept self.now }
         ensures { result ≡ target_in (reading_of self.now) name.now }
     {
         match &self.objective {
@@ -119,7 +105,6 @@ impl<'a> Reader<'a> {
     }
 
     fn target_behind(&self, objective: &[u8], name: &[u8]) -> Option<usize>
-        requires kept { IsKept self.now }
         ensures { result ≡ place_of name.now (objective.now ∷ row_names self.now.rows.items) }
     {
         if name == objective {

@@ -2,25 +2,24 @@
 
 ghost use Rattle.std.specs.Prelude.{◌≡◌, ℕ, ◌<◌, ◌≤◌, [], ◌∷◌, length, Some, None, OnOk, IfOk, Ok, Err, if◌then◌else◌};
 ghost use Rattle.mps_text.specs.declared.faults.MpsCause.TheVariants as cause;
-ghost use Rattle.mps_text.specs.Lines.{fields_of};
+ghost use Rattle.text_lines.specs.Lines.{fields_of};
 ghost use Rattle.mps_text.specs.inner.Counts.{fields_in};
 ghost use Rattle.mps_text.specs.Meaning.{place_of, row_names, column_names, value_in, bound_in, each_in, change_at, with_right, with_bound, right_line, rights_line, bound_kind_in, bound_line, bounds_line};
-ghost use Rattle.mps_text.specs.inner.Readers.{reading_of, opened, both_of, IsKept, Judges, Finds, KeepsAll, KeepsColumns};
+ghost use Rattle.mps_text.specs.inner.Readers.{reading_of, opened, both_of, Judges, Finds, KeepsAll, KeepsColumns};
 
 use crate::counts::{Four, Pair, Pairs, four_fields, pair_fields};
 use crate::faults::MpsCause;
 use crate::parts::ReadColumn;
-use crate::reader::{LineFault, Reader};
+use crate::reader::LineFault;
 use crate::stages::{BoundKind, Stage};
+use crate::state::Reader;
 use crate::values::{bound, keeps_rules, two_numbers, value_of};
 
 impl<'a> Reader<'a> {
     /// A line of the right sides.
     pub(crate) fn rights_line(&mut self, line: &[u8]) -> Result<(), LineFault>
-        requires kept { IsKept self.old }
         requires stage { self.old.stage ≡ Stage.Rights }
         ensures judged { Judges result (rights_line (reading_of self.old) (fields_of line.now)) (reading_of self.new) }
-        ensures kept { OnOk result (IsKept self.new) }
         ensures grows { length self.new.rows.items ≤ length self.old.rows.items }
     {
         match pair_fields(line) {
@@ -30,10 +29,8 @@ impl<'a> Reader<'a> {
     }
 
     fn right_pairs(&mut self, pairs: Pairs<'_>) -> Result<(), LineFault>
-        requires kept { IsKept self.old }
         requires stage { self.old.stage ≡ Stage.Rights }
         ensures judged { Judges result (rights_line (reading_of self.old) (fields_in pairs.entry)) (reading_of self.new) }
-        ensures kept { OnOk result (IsKept self.new) }
         ensures grows { length self.new.rows.items ≤ length self.old.rows.items }
     {
         match pairs.second {
@@ -43,10 +40,8 @@ impl<'a> Reader<'a> {
     }
 
     fn one_right(&mut self, set: &[u8], pair: Pair<'_>) -> Result<(), LineFault>
-        requires kept { IsKept self.old }
         requires stage { self.old.stage ≡ Stage.Rights }
         ensures judged { Judges result (right_line (reading_of self.old) set.now (pair.entry.row.now ∷ []) (pair.entry.value.now ∷ [])) (reading_of self.new) }
-        ensures kept { OnOk result (IsKept self.new) }
         ensures grows { length self.new.rows.items ≡ length self.old.rows.items }
     {
         if !keeps_rules(set) {
@@ -58,10 +53,8 @@ impl<'a> Reader<'a> {
     }
 
     fn two_rights(&mut self, set: &[u8], first: Pair<'_>, second: Pair<'_>) -> Result<(), LineFault>
-        requires kept { IsKept self.old }
         requires stage { self.old.stage ≡ Stage.Rights }
         ensures judged { Judges result (right_line (reading_of self.old) set.now (first.entry.row.now ∷ second.entry.row.now ∷ []) (first.entry.value.now ∷ second.entry.value.now ∷ [])) (reading_of self.new) }
-        ensures kept { OnOk result (IsKept self.new) }
         ensures grows { length self.new.rows.items ≡ length self.old.rows.items }
     {
         if !keeps_rules(set) {
@@ -82,7 +75,6 @@ impl<'a> Reader<'a> {
     }
 
     fn row_place(&self, row: &[u8]) -> Result<usize, LineFault>
-        requires kept { IsKept self.now }
         ensures found { Finds result (place_of row.now (row_names self.now.rows.items)) cause.Row }
         ensures within { IfOk result (λ t. t < length self.now.rows.items) }
     {
@@ -93,7 +85,6 @@ impl<'a> Reader<'a> {
     }
 
     fn two_places(&self, first: &[u8], second: &[u8]) -> Result<(usize, usize), LineFault>
-        requires kept { IsKept self.now }
         ensures found { Finds (both_of result) (each_in (λ name. place_of name (row_names self.now.rows.items)) (first.now ∷ second.now ∷ [])) cause.Row }
         ensures within { IfOk result (λ t. (t.0 < length self.now.rows.items) × (t.1 < length self.now.rows.items)) }
     {
@@ -107,12 +98,10 @@ impl<'a> Reader<'a> {
     }
 
     fn put_right(&mut self, place: usize, number: i64) -> Result<(), LineFault>
-        requires kept { IsKept self.old }
         requires stage { self.old.stage ≡ Stage.Rights }
         requires within { place < length self.old.rows.items }
         ensures found { Finds (opened result self.new.rows.items) (change_at place (with_right number) self.old.rows.items) cause.Twice }
         ensures same { KeepsColumns self.old self.new }
-        ensures kept { OnOk result (IsKept self.new) }
         ensures size { length self.new.rows.items ≡ length self.old.rows.items }
     {
         let row = &mut self.rows[place];
@@ -125,10 +114,8 @@ impl<'a> Reader<'a> {
 
     /// A line of the bounds.
     pub(crate) fn bounds_line(&mut self, line: &[u8]) -> Result<(), LineFault>
-        requires kept { IsKept self.old }
         requires stage { self.old.stage ≡ Stage.Limits }
         ensures judged { Judges result (bounds_line (reading_of self.old) (fields_of line.now)) (reading_of self.new) }
-        ensures kept { OnOk result (IsKept self.new) }
         ensures grows { self.new.rows.items ≡ self.old.rows.items }
     {
         match four_fields(line) {
@@ -138,10 +125,8 @@ impl<'a> Reader<'a> {
     }
 
     fn bound_of(&mut self, line: Four<'_>) -> Result<(), LineFault>
-        requires kept { IsKept self.old }
         requires stage { self.old.stage ≡ Stage.Limits }
         ensures judged { Judges result (bound_line (reading_of self.old) line.entry.kind.now line.entry.set.now line.entry.column.now line.entry.value.now) (reading_of self.new) }
-        ensures kept { OnOk result (IsKept self.new) }
         ensures grows { self.new.rows.items ≡ self.old.rows.items }
     {
         let kind = match bound_kind(line.kind) {
@@ -163,12 +148,10 @@ impl<'a> Reader<'a> {
     }
 
     fn put_bound(&mut self, place: usize, kind: BoundKind, number: u64) -> Result<(), LineFault>
-        requires kept { IsKept self.old }
         requires stage { self.old.stage ≡ Stage.Limits }
         requires within { place < length self.old.columns.items }
         ensures found { Finds (opened result self.new.columns.items) (change_at place (with_bound kind number) self.old.columns.items) cause.Twice }
         ensures same { KeepsAll self.old self.new }
-        ensures kept { OnOk result (IsKept self.new) }
     {
         if self.columns[place].set_bound(kind, number) {
             Ok(())

@@ -1,6 +1,6 @@
 //! Names and numbers in fields.
 
-ghost use Rattle.std.specs.Prelude.{◌≡◌, [], ◌∷◌};
+ghost use Rattle.std.specs.Prelude.{◌≡◌, [], ◌∷◌, IfOk};
 ghost use Rattle.mps_text.specs.declared.faults.MpsCause.TheVariants as cause;
 ghost use Rattle.std.specs.List.{list_all};
 ghost use Rattle.mps_text.specs.Meaning.{is_visible, is_name, size_in, value_in, bound_in, each_in};
@@ -8,7 +8,16 @@ ghost use Rattle.mps_text.specs.inner.Readers.{both_of, Finds};
 
 use crate::faults::MpsCause;
 use crate::reader::LineFault;
-use arc_num::{MAX_PRICE, number};
+use arc_num::{MAX_PRICE, Memory, number};
+use flow_model::Name;
+use std::alloc::Global;
+
+/// A name of its own, with the bytes of a field.
+pub(crate) fn name_of(alloc: Global, field: &[u8]) -> Result<Name, Memory>
+    ensures { IfOk result (λ name. name ≡ field.now) }
+{
+    Ok(Name::new(Vec::from_slice(alloc, field)?))
+}
 
 /// Whether a name keeps the rules.
 pub(crate) fn keeps_rules(name: &[u8]) -> bool

@@ -2,7 +2,7 @@
 use Rattle.std.specs.Prelude.{◌≡◌, ℕ, ◌==◌, if◌then◌else◌, List, [], ◌∷◌, length, Option, Some, None}
 use Rattle.mps_text.specs.declared.counts.Pair.{Pair}
 use Rattle.mps_text.specs.declared.counts.Pairs.{Pairs}
-use Rattle.mps_text.specs.Lines.{fields_of}
+use Rattle.text_lines.specs.Lines.{fields_of}
 
 -- the fields of a second pair
 abbrev pub second_fields : Option Pair → List (List ℕ)

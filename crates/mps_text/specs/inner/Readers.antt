@@ -1,46 +1,16 @@
 -- How the reader stands to what is read.
-use Rattle.std.specs.Prelude.{◌≡◌, ℕ, suc, ◌-◌, ◌<◌, ◌≤◌, Bool, true, false, ◌==◌, List, [], ◌∷◌, length, get_or, Option, Some, None, Result, Ok, Err}
+use Rattle.std.specs.Prelude.{◌≡◌, ℕ, List, [], ◌∷◌, Option, Some, None, Result, Ok, Err}
 use Rattle.mps_text.specs.declared.faults.MpsCause.{MpsCause}
 use Rattle.mps_text.specs.declared.faults.MpsFault.{MpsFault}
 use Rattle.mps_text.specs.declared.faults.MpsFault.TheVariants as fault
 use Rattle.mps_text.specs.declared.reader.LineFault.{LineFault}
 use Rattle.mps_text.specs.declared.reader.LineFault.TheVariants.{Bad, Memory}
-use Rattle.mps_text.specs.declared.stages.Stage.{Stage}
-use Rattle.mps_text.specs.declared.stages.Stage.TheVariants.{Start, Named, Rows, Rights, Limits, Ended}
-use Rattle.mps_text.specs.declared.parts.ReadRow.{ReadRow}
-use Rattle.mps_text.specs.declared.parts.ReadColumn.{ReadColumn}
-use Rattle.mps_text.specs.declared.reader.Reader.{Reader}
-use Rattle.mps_text.specs.Meaning.{Reading, Judged, row_names, column_names, has_entry}
+use Rattle.mps_text.specs.declared.state.Reader.{Reader}
+use Rattle.mps_text.specs.Meaning.{Reading, Judged}
 
 -- what a reader has read
 abbrev pub reading_of : Reader → Reading
 reading_of r = record { stage = r.stage; integers_open = r.integers_open; objective = r.objective; rows = r.rows.items; columns = r.columns.items }
-
--- whether columns may still come, and whether none has come
-abbrev pub takes_columns : Stage → Bool
-takes_columns Rights = false
-takes_columns Limits = false
-takes_columns Ended = false
-takes_columns stage = true
-
-abbrev pub precedes_columns : Stage → Bool
-precedes_columns Start = true
-precedes_columns Named = true
-precedes_columns Rows = true
-precedes_columns stage = false
-
--- each row has the number of the last column with a value in it, where this is the last column
-pub record AreLastColumns (last_columns : List ℕ) (rows : List ReadRow) (columns : List ReadColumn) : Type 0 where
-  pub size : length last_columns ≡ length rows
-  pub bound : (k : ℕ) → k < length last_columns → get_or last_columns k 0 ≤ length columns
-  pub last : (k : ℕ) (c : ReadColumn) → k < length last_columns → 0 < length columns → (get_or last_columns k 0 == length columns) ≡ has_entry (suc k) (get_or columns (length columns - 1) c)
-
--- the names are those of the rows and columns, and the last columns are kept while columns may come
-pub record IsKept (r : Reader) : Type 0 where
-  pub row_names_are : r.row_names ≡ row_names r.rows.items
-  pub column_names_are : r.column_names ≡ column_names r.columns.items
-  pub last_columns_are : takes_columns r.stage ≡ true → AreLastColumns r.last_columns.items r.rows.items r.columns.items
-  pub none_yet : precedes_columns r.stage ≡ true → r.columns.items ≡ []
 
 -- the answer to a line is what it leaves, or its cause, or want of memory
 abbrev pub Judges : {A : Type 0} → Result A LineFault → Judged → Reading → Type 0
