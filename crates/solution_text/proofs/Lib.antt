@@ -1,0 +1,3 @@
+pub mod ColumnNames
+pub mod ArcNumbers
+pub mod Meanings
