@@ -1,0 +1,13 @@
+pub mod Takings
+pub mod Lifts
+pub mod Covering
+pub mod LevelRooms
+pub mod FoundImages
+pub mod Numberings
+pub mod TableLoops
+pub mod Lifting
+pub mod Aheads
+pub mod Finishing
+pub mod Waiting
+pub mod LabelSearch
+pub mod MainsOf

@@ -1,0 +1,2 @@
+pub mod LiftedMains
+pub mod inner
