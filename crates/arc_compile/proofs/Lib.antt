@@ -24,3 +24,4 @@ pub mod CutPieces
 pub mod PaddedLevels
 pub mod PaddedGraphs
 pub mod OneSize
+pub mod RowLemmas

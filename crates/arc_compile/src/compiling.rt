@@ -8,27 +8,18 @@ ghost use Rattle.flow_graph.specs.Faithful.{IsFaithful};
 ghost use Rattle.arc_compile.specs.Extended.{places_of};
 ghost use Rattle.arc_compile.specs.Graphs.{IsSmall, IsTooLarge};
 ghost use Rattle.arc_compile.specs.Compiled.{AreCompiled};
+ghost use Rattle.arc_compile.specs.inner.Rows.{IsRow};
 
 use crate::extended::place_count;
 use crate::laws::compiled_graphs_are_faithful;
 use crate::results::{CompileFault, Compiled, Sizes, TypeSize};
-use crate::type_graphs::{CompiledType, compile_type};
-use arc_num::{MAX_ARCS, Memory};
+use crate::rows::{TypeRow, side_by_side};
+use crate::type_graphs::CompiledType;
+use arc_num::{Gate, MAX_ARCS, Memory, NoGate};
 use flow_graph::FlowGraph;
-use label_graph::GraphFault;
 use packing_laws::Instance;
 use std::alloc::Global;
 use std::thread::Threads;
-
-/// The fault of an instance whose type t is at fault.
-fn fault_at(t: u32, fault: GraphFault) -> CompileFault
-    ensures too_many { (s : ℕ) → result ≡ CompileFault.TooManyArcs s → (fault ≡ GraphFault.TooManyArcs) × (s ≡ t) }
-{
-    match fault {
-        GraphFault::TooManyArcs => CompileFault::TooManyArcs { t },
-        GraphFault::Memory => CompileFault::Memory,
-    }
-}
 
 /// Appends a compiled type to the graph, and its sizes to the sizes.
 fn put_type(
@@ -47,40 +38,64 @@ fn put_type(
     Ok(())
 }
 
-/// All types compiled in N places, one after the other.
-fn compile_in<const N: usize>(alloc: Global, instance: &Instance) -> Result<Compiled, CompileFault>
+/// The types of an instance as one graph, where their main graphs have not too many arcs together. The sum is tested
+/// type by type, in order, so the first type past the limit is the same however the types were compiled.
+fn assembled(alloc: Global, instance: &Instance, row: &TypeRow) -> Result<Compiled, CompileFault>
+    requires { IsRow instance.now 1 (length instance.now.types) row.now }
+    ensures compiled { IfOk result (λ c. AreCompiled instance.now c.graph c.sizes) }
+    ensures small { IfOk result (λ _. IsSmall instance.now) }
+    ensures large { IfErr result (λ fault. (t : ℕ) → fault ≡ CompileFault.TooManyArcs t → IsTooLarge instance.now t) }
+{
+    let _types = instance.type_count();
+    let mut graph = FlowGraph::new(alloc);
+    let mut sizes = Vec::new(alloc);
+    let mut room = MAX_ARCS;
+    for (k, compiled) in row.types.as_slice().iter().enumerate() {
+        if compiled.size.main_arcs > room {
+            return Err(CompileFault::TooManyArcs { t: k as u32 + 1 });
+        }
+        room -= compiled.size.main_arcs;
+        put_type(&mut graph, &mut sizes, compiled)?;
+    }
+    match row.fault {
+        Some(fault) => Err(fault),
+        None => Ok(Compiled {
+            graph,
+            sizes: Sizes::new(sizes),
+        }),
+    }
+}
+
+/// All types compiled in N places.
+fn compile_in<R: Threads + Sync, G: Gate + Sync, const N: usize>(
+    rt: &R,
+    alloc: Global,
+    instance: &Instance,
+    workers: u32,
+    gate: &G,
+) -> Result<Compiled, CompileFault>
     requires small { N ≤ 32 }
     requires wide { places_of instance.now ≤ N }
     ensures compiled { IfOk result (λ c. AreCompiled instance.now c.graph c.sizes) }
     ensures small { IfOk result (λ _. IsSmall instance.now) }
     ensures large { IfErr result (λ fault. (t : ℕ) → fault ≡ CompileFault.TooManyArcs t → IsTooLarge instance.now t) }
 {
-    let mut graph = FlowGraph::new(alloc);
-    let mut sizes = Vec::new(alloc);
-    let mut room = MAX_ARCS;
-    for t in 0..instance.type_count() {
-        let compiled = match compile_type::<N>(alloc, instance, t + 1, room) {
-            Ok(compiled) => compiled,
-            Err(fault) => return Err(fault_at(t + 1, fault)),
-        };
-        room -= compiled.size.main_arcs;
-        put_type(&mut graph, &mut sizes, &compiled)?;
-    }
-    Ok(Compiled {
-        graph,
-        sizes: Sizes::new(sizes),
-    })
+    let count = instance.type_count();
+    let row = side_by_side::<R, G, N>(rt, alloc, instance, gate, 1, count, workers);
+    assembled(alloc, instance, &row)
 }
 
-/// The numbered final graphs of all types of an instance, with the sizes of the main and the final graphs. The result
-/// does not depend on the number of workers.
-pub fn compile<R: Threads + Sync>(
-    _rt: &R,
+/// The numbered final graphs of all types of an instance, with the sizes of the main and the final graphs. The types are
+/// compiled by halves side by side, as long as there are workers; each passes the gate once, by its number, before it is
+/// begun. The result depends neither on the number of workers nor on the gate.
+pub fn compile_gated<R: Threads + Sync, G: Gate + Sync>(
+    rt: &R,
     alloc: Global,
     instance: &Instance,
-    _workers: u32,
+    workers: u32,
+    gate: &G,
 ) -> Result<Compiled, CompileFault>
-    requires workers { IsAmong _workers MAX_WORKERS }
+    requires workers { IsAmong workers MAX_WORKERS }
     ensures compiled { IfOk result (λ c. AreCompiled instance.now c.graph c.sizes) }
     ensures faithful { IfOk result (λ c. IsFaithful instance.now c.graph) }
     ensures small { IfOk result (λ _. IsSmall instance.now) }
@@ -89,11 +104,27 @@ pub fn compile<R: Threads + Sync>(
     compiled_graphs_are_faithful();
     instance.known();
     match place_count(instance) {
-        0 | 1 => compile_in::<1>(alloc, instance),
-        2 => compile_in::<2>(alloc, instance),
-        3..=4 => compile_in::<4>(alloc, instance),
-        5..=8 => compile_in::<8>(alloc, instance),
-        9..=16 => compile_in::<16>(alloc, instance),
-        _ => compile_in::<32>(alloc, instance),
+        0 | 1 => compile_in::<R, G, 1>(rt, alloc, instance, workers, gate),
+        2 => compile_in::<R, G, 2>(rt, alloc, instance, workers, gate),
+        3..=4 => compile_in::<R, G, 4>(rt, alloc, instance, workers, gate),
+        5..=8 => compile_in::<R, G, 8>(rt, alloc, instance, workers, gate),
+        9..=16 => compile_in::<R, G, 16>(rt, alloc, instance, workers, gate),
+        _ => compile_in::<R, G, 32>(rt, alloc, instance, workers, gate),
     }
+}
+
+/// `compile_gated` without a gate.
+pub fn compile<R: Threads + Sync>(
+    rt: &R,
+    alloc: Global,
+    instance: &Instance,
+    workers: u32,
+) -> Result<Compiled, CompileFault>
+    requires workers { IsAmong workers MAX_WORKERS }
+    ensures compiled { IfOk result (λ c. AreCompiled instance.now c.graph c.sizes) }
+    ensures faithful { IfOk result (λ c. IsFaithful instance.now c.graph) }
+    ensures small { IfOk result (λ _. IsSmall instance.now) }
+    ensures large { IfErr result (λ fault. (t : ℕ) → fault ≡ CompileFault.TooManyArcs t → IsTooLarge instance.now t) }
+{
+    compile_gated(rt, alloc, instance, workers, &NoGate)
 }

@@ -10,9 +10,10 @@ mod numbered;
 mod pieces;
 mod ranks;
 mod results;
+mod rows;
 mod type_graphs;
 
-pub use compiling::compile;
+pub use compiling::{compile, compile_gated};
 pub use laws::{
     compiled_graphs_are_faithful, compiled_graphs_are_one, extended_weights_tell_fits,
     final_graphs_are_exact, padding_keeps_graphs, sizes_are_one, sizes_exist,

@@ -1,12 +1,13 @@
 //! The pieces, the graphs and the sizes of worked instances.
 use super::*;
 use crate::type_graphs::main_graph;
-use arc_num::Memory;
+use arc_num::{Gate, Memory};
 use final_compress::compress_final;
 use flow_graph::ArcKind;
 use label_graph::{Graph, GraphFault};
 use packing_laws::{BinType, Instance, Item, ItemCap, Numbers, Vectors};
 use std::alloc::Global;
+use std::sync::atomic::{AtomicBool, Ordering};
 use std::test::Fail;
 use std::thread::Threads;
 
@@ -242,15 +243,42 @@ fn labels_of_two_forms(rt: HostRuntime) -> Result<(), Fail> {
     Ok(())
 }
 
+/// A gate that holds the first piece back until the second has come, for at most so many turns.
+#[derive(Drop)]
+struct Meeting {
+    second_came: AtomicBool,
+    met: AtomicBool,
+}
+
+const TURNS: u64 = 500_000_000;
+
+impl Gate for Meeting {
+    fn pass(&self, piece: u32) {
+        if piece == 2 {
+            self.second_came.store(true, Ordering::SeqCst);
+        } else if piece == 1 {
+            for _ in 0..TURNS {
+                if self.second_came.load(Ordering::SeqCst) {
+                    self.met.store(true, Ordering::SeqCst);
+                    return;
+                }
+            }
+        }
+    }
+}
+
 #[test]
-fn two_types_have_two_graphs(rt: HostRuntime) -> Result<(), Fail> {
+fn two_types_at_once(rt: HostRuntime) -> Result<(), Fail> {
     let alloc = rt.alloc();
     let instance = two_types(alloc)?.ok_or("no instance")?;
-    for workers in [1, 4] {
-        let compiled = compile(&rt, alloc, &instance, workers)?;
-        assert_eq!(rt; compiled.graph.arc_count(), 6);
-        assert_eq!(rt; compiled.graph.type_count(), 2);
-    }
+    let gate = Meeting {
+        second_came: AtomicBool::new(false),
+        met: AtomicBool::new(false),
+    };
+    let compiled = compile_gated(&rt, alloc, &instance, 2, &gate)?;
+    assert!(rt; gate.met.load(Ordering::SeqCst));
+    assert_eq!(rt; compiled.graph.arc_count(), 6);
+    assert_eq!(rt; compiled.graph.type_count(), 2);
     Ok(())
 }
 

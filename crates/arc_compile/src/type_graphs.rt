@@ -19,8 +19,7 @@ use arc_num::Memory;
 use final_compress::compress_final;
 use flow_graph::TypeArc;
 use label_graph::{Graph, GraphFault};
-use level_graph::{level_graphs_are_graphs, levels};
-use main_compress::compress_main;
+use lift_build::build_main;
 use packing_laws::Instance;
 use std::alloc::Global;
 
@@ -70,11 +69,9 @@ pub fn main_graph<const N: usize>(
     ensures full { IfErr result (λ fault. fault ≡ GraphFault.TooManyArcs → (arcs : ℕ) × HasMainArcs N instance.now t arcs × (room < arcs)) }
 {
     instance.known();
-    level_graphs_are_graphs();
     let cap = capacity_in::<N>(alloc, instance, t)?;
     let pieces = pieces_of::<N>(alloc, instance, t)?;
-    let level = levels(alloc, pieces.as_slice(), &cap)?;
-    compress_main(alloc, &level, &cap, room)
+    build_main(alloc, pieces.as_slice(), &cap, room)
 }
 
 /// The numbered arcs of the final graph of a main graph, and the sizes of both.
