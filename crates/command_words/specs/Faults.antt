@@ -138,3 +138,7 @@ number_of_setting s parts = option_and_then number_of (value_of_setting s parts)
 -- the plain word at place n, from 0
 abbrev pub plain_of : ℕ → List PartValue → Option Word
 plain_of n parts = slice_get (plains_in parts) n
+
+-- each value that stands with an option may stand there
+abbrev pub HasValues : List PartValue → Type 0
+HasValues parts = (s : Setting) (value : Word) → value_of_setting s parts ≡ Some value → is_value (taken_by s) value ≡ true

@@ -1,7 +1,8 @@
 //! What the command line asks for.
 
 ghost use Rattle.std.specs.Prelude.{◌≡◌, ◌↔◌, map, string_bytes, IfOk, IsTrue};
-ghost use Rattle.command_words.specs.Requests.{request_of, source_of, name_of, is_mvp_of, verb_of, MakesGraphs, first_name, wants_mvp, request_from, Answers};
+ghost use Rattle.command_words.specs.Faults.{HasValues};
+ghost use Rattle.command_words.specs.Requests.{request_of, source_of, name_of, is_mvp_of, verb_of, workers_of, HasWorkers, MakesGraphs, name_at, wants_mvp, wanted_workers, IsCount, request_from, Answers};
 
 use crate::faults::WordFault;
 use crate::found::Found;
@@ -9,12 +10,29 @@ use crate::table::{Setting, Verb};
 use arc_num::Memory;
 use std::alloc::Global;
 
-/// What the command line asks for. `mvp` says that the instance is read in the `.mvp` layout.
+/// What the command line asks for. `mvp` says that the instance is read in the `.mvp` layout, `workers` how many threads
+/// may work at once.
 #[derive(Debug, Drop)]
 pub enum Command {
-    Compile { name: String, mvp: bool },
-    Solve { name: String, mvp: bool },
-    Export { name: String, mvp: bool },
+    Compile {
+        name: String,
+        mvp: bool,
+        workers: u32,
+    },
+    Solve {
+        name: String,
+        mvp: bool,
+        workers: u32,
+    },
+    Export {
+        name: String,
+        mvp: bool,
+    },
+    Extract {
+        name: String,
+        solution: String,
+        mvp: bool,
+    },
 }
 
 /// Where the instance comes from that is asked about.
@@ -32,15 +50,19 @@ impl Command {
         ensures mvp { result.mvp ≡ is_mvp_of (request_of self.now) }
     {
         match self {
-            Command::Compile { name, mvp } => Source {
+            Command::Compile { name, mvp, .. } => Source {
                 name: name.as_str(),
                 mvp: *mvp,
             },
-            Command::Solve { name, mvp } => Source {
+            Command::Solve { name, mvp, .. } => Source {
                 name: name.as_str(),
                 mvp: *mvp,
             },
             Command::Export { name, mvp } => Source {
+                name: name.as_str(),
+                mvp: *mvp,
+            },
+            Command::Extract { name, mvp, .. } => Source {
                 name: name.as_str(),
                 mvp: *mvp,
             },
@@ -54,6 +76,19 @@ impl Command {
             Command::Compile { .. } => Verb::Compile,
             Command::Solve { .. } => Verb::Solve,
             Command::Export { .. } => Verb::Export,
+            Command::Extract { .. } => Verb::Extract,
+        }
+    }
+
+    /// How many threads may work at once for the command: 1 where it has no word on that.
+    pub fn workers(&self) -> u32
+        ensures { result ≡ workers_of (request_of self.now) }
+    {
+        match self {
+            Command::Compile { workers, .. } => *workers,
+            Command::Solve { workers, .. } => *workers,
+            Command::Export { .. } => 1,
+            Command::Extract { .. } => 1,
         }
     }
 
@@ -72,36 +107,62 @@ impl Command {
             Command::Compile { name, .. } => name,
             Command::Solve { name, .. } => name,
             Command::Export { name, .. } => name,
+            Command::Extract { name, .. } => name,
         }
     }
 }
 
-fn first_name(alloc: Global, found: &Found) -> Result<String, Memory>
-    ensures { IfOk result (λ name. string_bytes name ≡ first_name found.now) }
+/// The plain word at this place, from 0; the empty name where there is none.
+fn name_at(alloc: Global, found: &Found, place: usize) -> Result<String, Memory>
+    ensures { IfOk result (λ name. string_bytes name ≡ name_at place found.now) }
 {
-    let name = match found.plain(0) {
+    let name = match found.plain(place) {
         Some(name) => String::from_str(alloc, name)?,
         None => String::new(alloc),
     };
     Ok(name)
 }
 
+/// How many threads may work at once: 1 where nothing is said.
+fn wanted_workers(found: &Found) -> u32
+    requires { HasValues found.now }
+    ensures value { result ≡ wanted_workers found.now }
+    ensures count { IsCount result }
+{
+    match found.number(Setting::Workers) {
+        Some(workers) => workers as u32,
+        None => 1,
+    }
+}
+
 /// The command that is asked for by what stands behind its word.
 fn command_from(alloc: Global, verb: Verb, found: &Found) -> Result<Command, Memory>
-    ensures { IfOk result (λ command. request_of command ≡ request_from verb found.now) }
+    requires { HasValues found.now }
+    ensures request { IfOk result (λ command. request_of command ≡ request_from verb found.now) }
+    ensures workers { IfOk result (λ command. HasWorkers (request_of command)) }
 {
-    let name = first_name(alloc, found)?;
+    let name = name_at(alloc, found, 0)?;
     let mvp = found.has(Setting::Mvp) || name.as_bytes().ends_with(b".mvp");
+    let workers = wanted_workers(found);
     match verb {
-        Verb::Compile => Ok(Command::Compile { name, mvp }),
-        Verb::Solve => Ok(Command::Solve { name, mvp }),
+        Verb::Compile => Ok(Command::Compile { name, mvp, workers }),
+        Verb::Solve => Ok(Command::Solve { name, mvp, workers }),
         Verb::Export => Ok(Command::Export { name, mvp }),
+        Verb::Extract => {
+            let solution = name_at(alloc, found, 1)?;
+            Ok(Command::Extract {
+                name,
+                solution,
+                mvp,
+            })
+        }
     }
 }
 
 /// Reads the words of the command line, without the program's name.
 pub fn read_words(alloc: Global, words: &[String]) -> Result<Command, WordFault>
-    ensures { Answers (map string_bytes words.now) result }
+    ensures answers { Answers (map string_bytes words.now) result }
+    ensures workers { IfOk result (λ command. HasWorkers (request_of command)) }
 {
     let Some((word, others)) = words.split_first() else {
         return Err(WordFault::NoCommand);

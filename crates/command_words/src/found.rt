@@ -1,7 +1,7 @@
 //! What the words behind a command say.
 
-ghost use Rattle.std.specs.Prelude.{◌≡◌, map, string_bytes, MatchResult, MatchOption, Ok, None, Some};
-ghost use Rattle.command_words.specs.Faults.{said_by, FaultIs, is_given, plain_of, value_of_setting, number_of_setting};
+ghost use Rattle.std.specs.Prelude.{◌≡◌, map, string_bytes, IfOk, MatchResult, MatchOption, Ok, None, Some};
+ghost use Rattle.command_words.specs.Faults.{said_by, FaultIs, HasValues, is_given, plain_of, value_of_setting, number_of_setting};
 
 use crate::checks::{fault_in, is_given};
 use crate::faults::WordFault;
@@ -29,7 +29,8 @@ impl Model for Found {
 impl Found {
     /// Reads the words behind a command of this shape.
     pub fn read(alloc: Global, shape: Shape, words: &[String]) -> Result<Self, WordFault>
-        ensures { MatchResult result (λ found. said_by shape (map string_bytes words.now) ≡ Ok found) (λ fault. FaultIs (said_by shape (map string_bytes words.now)) fault) }
+        ensures said { MatchResult result (λ found. said_by shape (map string_bytes words.now) ≡ Ok found) (λ fault. FaultIs (said_by shape (map string_bytes words.now)) fault) }
+        ensures values { IfOk result HasValues }
     {
         let parts = parts_of(alloc, words)?;
         match fault_in(shape, parts.as_slice()) {

@@ -11,6 +11,7 @@ pub enum Verb {
     Compile,
     Solve,
     Export,
+    Extract,
 }
 
 /// What a plain word of a command stands for.
@@ -82,6 +83,18 @@ const INSTANCE: Shape = Shape {
     workers: false,
 };
 
+/// An instance that several threads may work on.
+const SHARED_INSTANCE: Shape = Shape {
+    workers: true,
+    ..INSTANCE
+};
+
+/// An instance, and a solution of its model.
+const SOLVED_INSTANCE: Shape = Shape {
+    second: Some(PlainWord::Solution),
+    ..INSTANCE
+};
+
 impl Verb {
     /// The command that a word names.
     pub fn named(word: &str) -> Option<Self>
@@ -91,6 +104,7 @@ impl Verb {
             "compile" => Some(Verb::Compile),
             "solve" => Some(Verb::Solve),
             "export" => Some(Verb::Export),
+            "extract" => Some(Verb::Extract),
             _ => None,
         }
     }
@@ -101,15 +115,19 @@ impl Verb {
     {
         match self {
             Verb::Compile => Row {
-                shape: INSTANCE,
+                shape: SHARED_INSTANCE,
                 makes_graphs: true,
             },
             Verb::Solve => Row {
-                shape: INSTANCE,
+                shape: SHARED_INSTANCE,
                 makes_graphs: false,
             },
             Verb::Export => Row {
                 shape: INSTANCE,
+                makes_graphs: true,
+            },
+            Verb::Extract => Row {
+                shape: SOLVED_INSTANCE,
                 makes_graphs: true,
             },
         }

@@ -69,13 +69,25 @@ fn commands_are_read(rt: HostRuntime) -> Result<(), Fail> {
         (compile.source().name, compile.source().mvp),
         ("a.mvp", true)
     );
-    let solve = command(rt.alloc(), "solve --mvp -- --a")?;
+    let solve = command(rt.alloc(), "solve --mvp --workers=64 -- --a")?;
     assert!(rt; matches!(&solve, Command::Solve { .. }) && !solve.makes_graphs());
+    assert_eq!(rt; (compile.workers(), solve.workers()), (1, 64));
     assert_eq!(rt; (solve.source().name, solve.source().mvp), ("--a", true));
     let export = command(rt.alloc(), "export -")?;
     assert!(rt; matches!(&export, Command::Export { .. }) && export.makes_graphs());
     assert!(rt; !export.source().mvp);
     assert_eq!(rt; export.into_name().as_str(), "-");
+    match command(rt.alloc(), "extract a.mvp -")? {
+        Command::Extract {
+            name,
+            solution,
+            mvp,
+        } => assert_eq!(rt;
+            (name.as_str(), solution.as_str(), mvp),
+            ("a.mvp", "-", true)
+        ),
+        _ => panic!(rt; "another command is read"),
+    }
     Ok(())
 }
 
@@ -90,6 +102,13 @@ fn first_faulty_words_are_named(rt: HostRuntime) {
         ("solve a --mvp=1 b", WordFault::BadValue { word: 3 }),
         ("export a b", WordFault::TooManyWords { word: 3 }),
         ("export  --joint", WordFault::BadName { word: 2 }),
+        ("compile a --workers 65", WordFault::BadValue { word: 4 }),
+        ("solve a --workers=0", WordFault::BadValue { word: 3 }),
+        ("compile a --workers", WordFault::NoValue { word: 3 }),
+        ("export a --workers 2", WordFault::NoSuchOption { word: 3 }),
+        ("extract - -", WordFault::BadName { word: 3 }),
+        ("extract a ", WordFault::BadName { word: 3 }),
+        ("extract a", WordFault::TooFewWords),
     ] {
         match command(rt.alloc(), words) {
             Ok(_) => panic!(rt; "{words} is read"),
