@@ -1,5 +1,5 @@
 -- A model that is exported, and what its solutions are worth.
-use Rattle.std.proofs.Common.{◌≡◌, ◌∙◌, ◌<◌, ℕ, List, refl, ap, sym, subst, pos, Ok, Result}
+use Rattle.std.proofs.Common.{◌≡◌, ◌∙◌, ◌<◌, ℕ, List, refl, ap, sym, pos, Ok}
 use Rattle.std.specs.Prelude.{All}
 use Rattle.packing_laws.specs.Instances.{InstanceValue, IsInstance}
 use Rattle.packing_laws.specs.Packings.{Bins, IsPacking}

@@ -2,6 +2,11 @@ pub mod LoadLemmas
 pub mod LineLemmas
 pub mod PrintLemmas
 pub mod WorkLemmas
+pub mod TextLemmas
+pub mod KeptLemmas
+pub mod FlowTexts
+pub mod Extracted
+pub mod Seconds
 pub mod RunLemmas
 pub mod ExactLemmas
 pub mod ReportLemmas

@@ -1,5 +1,5 @@
 -- What was taken of a name that is read piece by piece.
-use Rattle.std.proofs.Common.{◌≡◌, ◌∙◌, ℕ, ◌+◌, ◌≤◌, List, ◌++◌, length, drop, ap, sym, subst, arith, Some, None, IfSome}
+use Rattle.std.proofs.Common.{◌≡◌, ◌∙◌, ℕ, ◌+◌, ◌≤◌, List, length, drop, ap, sym, subst, arith, Some, None}
 use Rattle.std.proofs.Math.Seq.{drop-append-add, drop-append_seam}
 use Rattle.arc_io.specs.Bytes.{Told}
 use Rattle.arc_program.specs.inner.Loading.{IsReadUpTo, TakesAtMost}

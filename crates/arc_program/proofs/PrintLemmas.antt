@@ -1,5 +1,5 @@
 -- What a sink has taken of a text after one more line.
-use Rattle.std.proofs.Common.{◌≡◌, ℕ, ◌+◌, ◌-◌, ◌≤◌, List, ◌++◌, length, take, drop, ap, sym, subst, ◌∙◌, arith, inl, inr, Some, None, IfSome, Ok, Err, append_assoc, append-nil, min, refl, Result, [], ◌∷◌}
+use Rattle.std.proofs.Common.{◌≡◌, ℕ, ◌+◌, ◌-◌, ◌≤◌, List, ◌++◌, length, take, drop, ap, sym, subst, ◌∙◌, arith, inl, inr, Some, None, IfSome, Ok, Err, append_assoc, append-nil, min, refl, [], ◌∷◌}
 use Rattle.std.proofs.Math.Seq.{take-add, take-length}
 use Rattle.std.proofs.lemmas.List.{take-take, length-take, take_min, drop_all}
 use Rattle.std.proofs.lemmas.Bool.{cases_lt}
@@ -9,9 +9,9 @@ use Rattle.arc_io.specs.Faults.{raised}
 use Rattle.arc_io.specs.declared.IoFault.{IoFault}
 use Rattle.arc_io.specs.declared.IoFault.TheVariants.{Failed, Memory}
 use Rattle.arc_program.specs.World.{SinkSeen}
-use Rattle.arc_program.specs.Printing.{Line, lines_of, bytes_of, raised_for, Puts, TakesAll, TakesPrefix, PutsLines, PutsText, CutsOff}
+use Rattle.arc_program.specs.Printing.{Line, lines_of, bytes_of, Puts, TakesAll, TakesPrefix, PutsLines, PutsText, CutsOff}
 use Rattle.arc_program.specs.inner.Printing.{HasPut}
-use Rattle.arc_program.proofs.LineLemmas.{bytes_of-push, raised_for-push, bytes_of-lines_of}
+use Rattle.arc_program.proofs.LineLemmas.{bytes_of-push, raised_for-push}
 
 -- the first bytes and the next ones are first bytes
 parts : (text : List ℕ) (at end : ℕ) → at ≤ end → take at text ++ slice_range text at end ≡ take end text

@@ -1,8 +1,10 @@
 -- Reports, line by line.
-use Rattle.std.proofs.Common.{◌≡◌, ℕ, ◌+◌, ◌<◌, List, [], ◌∷◌, ◌++◌, length, take, get_or, ap, sym, ◌∙◌, arith, append_assoc, append-nil}
+use Rattle.std.proofs.Common.{◌≡◌, ℕ, ◌+◌, ◌<◌, List, [], ◌∷◌, ◌++◌, length, take, get_or, ap, refl, suc, sym, ◌∙◌, arith, append_assoc, append-nil}
 use Rattle.std.proofs.lemmas.List.{take_more, length-take-le}
 use Rattle.arc_compile.specs.declared.results.TypeSize.{TypeSize}
-use Rattle.arc_program.specs.Reports.{type_line, type_lines}
+use Rattle.packing_laws.specs.declared.packings.Bin.{Bin}
+use Rattle.arc_program.specs.Reports.{type_line, type_lines, bin_text, bins_text}
+use Rattle.arc_program.specs.Kept.{empties_of, empty_line, empty_lines}
 
 -- the lines of more types come behind
 type_lines-append : (t : ℕ) (xs ys : List (ℕ × ℕ)) (ss us : List TypeSize) → length ss ≡ length xs → type_lines t (xs ++ ys) (ss ++ us) ≡ type_lines t xs ss ++ type_lines (t + length xs) ys us
@@ -30,3 +32,18 @@ type_lines-more levels sizes t level size before same lt e f =
     ∙ (sym (type_lines-append 1 (take t levels) (level ∷ []) (take t sizes) (size ∷ []) (many ∙ sym sized))
     ∙ (ap (λ (xs : List (ℕ × ℕ)). type_lines 1 xs (take t sizes ++ size ∷ [])) (sym more)
     ∙ ap (λ (ss : List TypeSize). type_lines 1 (take (t + 1) levels) ss) (sym next)))))
+
+-- the lines of more bins come behind
+pub bins_text-append : (xs ys : List Bin) → bins_text (xs ++ ys) ≡ bins_text xs ++ bins_text ys
+bins_text-append [] ys = refl
+bins_text-append (x ∷ xs) ys = ap (λ (zs : List ℕ). bin_text x ++ zs) (bins_text-append xs ys) ∙ sym (append_assoc (bin_text x) (bins_text xs) (bins_text ys))
+
+-- the line of the empty bins of one type more
+pub empty_lines-more : (q : ℕ) (bins : List Bin) (before : List ℕ) → (before ++ bins_text (empty_lines q bins)) ++ bins_text (empty_line (q + 1) (empties_of (q + 1) bins)) ≡ before ++ bins_text (empty_lines (q + 1) bins)
+empty_lines-more q bins before =
+    let n : q + 1 ≡ suc q = omega arith in
+    append_assoc before (bins_text (empty_lines q bins)) (bins_text (empty_line (q + 1) (empties_of (q + 1) bins)))
+    ∙ ap (λ (zs : List ℕ). before ++ zs)
+    (sym (bins_text-append (empty_lines q bins) (empty_line (q + 1) (empties_of (q + 1) bins)))
+    ∙ (ap (λ (m : ℕ). bins_text (empty_lines q bins ++ empty_line m (empties_of m bins))) n
+    ∙ ap (λ (m : ℕ). bins_text (empty_lines m bins)) (sym n)))

@@ -1,57 +1,33 @@
 -- How a run ends, from what was done and what was said.
-use Rattle.std.proofs.Common.{◌≡◌, ◌⊎◌, ◌∙◌, ℕ, List, refl, sym, ap, subst, inl, inr, Some, None, IfSome, Result, Ok, Err, string_bytes, arith}
+use Rattle.std.proofs.Common.{◌≡◌, ◌⊎◌, ◌∙◌, ℕ, List, refl, sym, ap, subst, inl, inr, Result, Ok, Err, string_bytes}
+use Rattle.arc_num.specs.declared.TheConstants.{MAX_INSTANCE}
 use Rattle.arc_io.specs.declared.IoFault.TheVariants as io
-use Rattle.arc_io.specs.Bytes.{Told}
-use Rattle.arc_io.specs.Faults.{Rose}
-use Rattle.packing_laws.specs.Instances.{InstanceValue, IsInstance}
-use Rattle.packing_laws.specs.Layouts as layouts
-use Rattle.packing_laws.specs.Layouts.{Layout, Vbp, Mvp, ReadsItsRow}
-use Rattle.packing_laws.specs.declared.fault.ReadFault.{ReadFault}
-use Rattle.arc_compile.specs.Graphs.{IsSmall, IsTooLarge}
-use Rattle.arc_compile.specs.CompileLaws.{SizesAreOne}
 use Rattle.arc_program.specs.declared.refusals.Refusal.{Refusal}
-use Rattle.arc_program.specs.declared.refusals.Refusal.TheVariants.{Words, Unread, Long, BadPlace, Large, Unwritten, Memory}
+use Rattle.arc_program.specs.declared.refusals.Refusal.TheVariants.{Words, Unread, Long, BadPlace, Large, Rejected, Unwritten, Memory}
 use Rattle.arc_program.specs.declared.status.Status.{Status}
-use Rattle.arc_program.specs.declared.status.Status.TheVariants.{Done, Bracketed, Usage, BadInstance, BadCertificate, ReadFault as ReadFaults, WriteFault, NoMemory, TooLarge}
+use Rattle.arc_program.specs.declared.status.Status.TheVariants.{Done, Bracketed, Usage, BadInstance, BadCertificate, ReadFault as ReadFaults, WriteFault, NoMemory, TooLarge, BadSolution}
 use Rattle.command_words.specs.declared.faults.WordFault.{WordFault}
-use Rattle.command_words.specs.Requests.{Request, Compiles, Solves, Exports}
+use Rattle.command_words.specs.Requests.{Request, Compiles, Solves, Exports, Extracts}
 use Rattle.arc_program.specs.World.{ShelfSeen, SinkSeen, World}
 use Rattle.arc_program.specs.Printing.{Line, PutsOnce}
-use Rattle.arc_program.specs.Reading.{HasRead, HasFailed, MayHaveRead, KeepsWritten}
+use Rattle.arc_program.specs.Reading.{KeepsWritten}
 use Rattle.command_words.specs.Lines.{word_fault_line}
-use Rattle.arc_program.specs.Refusals.{long_line, place_line, large_line, unread_line, memory_line, refusal_line, refusal_status}
-use Rattle.command_words.specs.Requests.{name_of, MakesGraphs}
-use Rattle.arc_program.specs.Requests.{layout_of, Writes, IsAccepted, IsLong, IsBadAt, IsRefused, IsLargeAt, IsRead, HasInstance}
+use Rattle.arc_program.specs.Refusals.{long_line, place_line, large_line, memory_line, refusal_line, refusal_status}
+use Rattle.command_words.specs.Requests.{name_of}
+use Rattle.arc_program.specs.Requests.{Writes}
 use Rattle.arc_program.specs.Statuses.{IsReported}
-use Rattle.arc_program.specs.Ends.{IsOwed, Answers, Ends, KeepsTo, MustEnd, IsExact, ComesOut, Starves}
-use Rattle.arc_program.specs.inner.Performed.{IsPrinted, IsCut, IsLargeRead, CarriesOut, HasNothingDone, Performs, IsSaid, SmallIsNotLarge}
+use Rattle.arc_program.specs.Ends.{Answers, Ends, KeepsTo, Starves, MayHaveReadAll}
+use Rattle.arc_program.specs.inner.Performed.{IsPrinted, IsCut, IsRejectedRead, CarriesOut, HasNothingDone, Performs, IsSaid}
+use Rattle.arc_program.proofs.TextLemmas.{read_nothing, may_have_read, may_have_failed_at, may_have_read_second}
+use Rattle.arc_program.proofs.Seconds.{IsForSecond, for_second}
 
 -- three worlds' parts, before or after
 abbrev seen : ShelfSeen → SinkSeen → SinkSeen → World
 seen shelf out err = record { shelf = shelf; out = out; err = err }
 
--- nothing was read
-none_asked : (name : List ℕ) (told : Told) → IfSome told (λ old. (told ≡ Some old) ⊎ (told ≡ Some name))
-none_asked name None = tt
-none_asked name (Some old) = inl refl
-
-read_nothing : (name : List ℕ) (shelf : ShelfSeen) → MayHaveRead name shelf shelf
-read_nothing name shelf = record { asked = none_asked name shelf.asked; taken = inl refl; faults = inl refl }
-
-one_asked : (name : List ℕ) (before after : Told) → IfSome before (λ _. after ≡ Some name) → IfSome before (λ old. (after ≡ Some old) ⊎ (after ≡ Some name))
-one_asked name None after h = tt
-one_asked name (Some old) after h = inr h
-
--- the name was read, or reading it failed
-pub may_have_read : (name : List ℕ) (before after : ShelfSeen) → HasRead name before after → MayHaveRead name before after
-may_have_read name before after read = record { asked = one_asked name before.asked after.asked read.asked; taken = inr (inr read.taken); faults = inl read.faults }
-
-may_have_failed : (name : List ℕ) (before after : ShelfSeen) → HasFailed name before after → MayHaveRead name before after
-may_have_failed name before after read = record { asked = one_asked name before.asked after.asked read.asked; taken = inr read.taken; faults = inr read.faults }
-
 -- without memory nothing is done, whatever the words ask for
 pub nothing_done : (asked : Result Request WordFault) (shelf : ShelfSeen) (out : SinkSeen) → Performs asked shelf shelf out out (Err Memory)
-nothing_done (Ok request) shelf out = (read_nothing (name_of request) shelf, inl refl)
+nothing_done (Ok request) shelf out = (inl (read_nothing (name_of request) MAX_INSTANCE shelf), inl refl)
 nothing_done (Err fault) shelf out = (refl, refl, tt)
 
 pub nothing_done_for : (asked : Result Request WordFault) (fault : WordFault) (shelf : ShelfSeen) (out : SinkSeen) → asked ≡ Err fault → Performs asked shelf shelf out out (Err (Words fault))
@@ -62,9 +38,10 @@ performed asked request before after old new done e carried = subst (λ (a : Res
 
 -- what is written
 writes_nothing : (request : Request) (before after : ShelfSeen) → KeepsWritten before after → Writes request before after
-writes_nothing (Compiles name mvp) before after keeps = keeps
-writes_nothing (Solves name mvp) before after keeps = keeps
+writes_nothing (Compiles name mvp workers) before after keeps = keeps
+writes_nothing (Solves name mvp workers) before after keeps = keeps
 writes_nothing (Exports name mvp) before after keeps = keeps
+writes_nothing (Extracts name solution mvp) before after keeps = keeps
 
 pub keeps_to : (asked : Result Request WordFault) (request : Request) (before after : ShelfSeen) → asked ≡ Ok request → KeepsWritten before after → KeepsTo asked before after
 keeps_to asked request before after e keeps = subst (λ (a : Result Request WordFault). KeepsTo a before after) (sym e) (writes_nothing request before after keeps)
@@ -84,6 +61,7 @@ printed_ends request before after old new err ReadFaults r p = absurd r
 printed_ends request before after old new err WriteFault r p = absurd r
 printed_ends request before after old new err NoMemory r p = absurd r
 printed_ends request before after old new err TooLarge r p = absurd r
+printed_ends request before after old new err BadSolution r p = absurd r
 
 pub ends_reported : (asked : Result Request WordFault) (before after : ShelfSeen) (old new err : SinkSeen) (status : Status) → Performs asked before after old new (Ok status) → Ends asked (seen before old err) (seen after new err) status
 ends_reported (Ok request) before after old new err status done = printed_ends request before after old new err status done.0 done.1
@@ -91,7 +69,7 @@ ends_reported (Err fault) before after old new err status done = absurd done.2
 
 -- a run that refuses
 module _ (request : Request) (before after : ShelfSeen) (old new e0 e1 : SinkSeen) where
-  lacks : MayHaveRead (name_of request) before after → new ≡ old → PutsOnce memory_line e0 e1 → Answers request (seen before old e0) (seen after new e1) NoMemory
+  lacks : MayHaveReadAll request before after → new ≡ old → PutsOnce memory_line e0 e1 → Answers request (seen before old e0) (seen after new e1) NoMemory
   lacks read same said = record { shelf = read; printed = inl same; said = said }
 
   starved : CarriesOut request before after old new (Err Memory) → PutsOnce memory_line e0 e1 → Answers request (seen before old e0) (seen after new e1) NoMemory
@@ -104,21 +82,31 @@ module _ (request : Request) (before after : ShelfSeen) (old new e0 e1 : SinkSee
   -- no memory was left for the line of a refusal
   unsaid_ends : (refusal : Refusal) (status : Status) → CarriesOut request before after old new (Err refusal) → refusal_status refusal ≡ status → PutsOnce memory_line e0 e1 → (refusal ≡ Unwritten → ⊥) → Answers request (seen before old e0) (seen after new e1) NoMemory
   unsaid_ends (Words fault) status done is said not = absurd done
-  unsaid_ends (Unread name) status done is said not = lacks (may_have_failed (name_of request) before after done.1) done.2 said
-  unsaid_ends (Long name) status done is said not = lacks (may_have_read (name_of request) before after done.2) done.3 said
-  unsaid_ends (BadPlace name fault) status done is said not = lacks (may_have_read (name_of request) before after done.2) done.3 said
-  unsaid_ends (Large name t) status done is said not = lacks (may_have_read (name_of request) before after done.2) done.3 said
+  unsaid_ends (Unread name) status done is said not = lacks (may_have_failed_at request (string_bytes name) before after done.0) done.1 said
+  unsaid_ends (Long name) status done is said not = lacks (inl (may_have_read (name_of request) MAX_INSTANCE before after done.2)) done.3 said
+  unsaid_ends (BadPlace name fault) status done is said not = lacks (inl (may_have_read (name_of request) MAX_INSTANCE before after done.2)) done.3 said
+  unsaid_ends (Large name t) status done is said not = lacks (inl (may_have_read (name_of request) MAX_INSTANCE before after done.2)) done.3 said
+  unsaid_ends (Rejected line refused) status done is said not = lacks (may_have_read_second request done.0.text before after done.0.shelf) done.1 said
   unsaid_ends Unwritten status done is said not = absurd (not refl)
   unsaid_ends Memory status done is said not = starved done said
+
+  -- the second text is refused
+  second_ends : (line : Line) (status : Status) → IsForSecond status → IsRejectedRead request before after line status → new ≡ old → PutsOnce line e0 e1 → Answers request (seen before old e0) (seen after new e1) status
+  second_ends line Done for_it r same said = absurd for_it
+  second_ends line Bracketed for_it r same said = absurd for_it
+  second_ends line Usage for_it r same said = absurd for_it
+  second_ends line BadInstance for_it r same said = absurd for_it
+  second_ends line BadCertificate for_it r same said = record { text = r.text; refused = r.refused; line = line; owed = r.owed; shelf = r.shelf; unprinted = same; said = said }
+  second_ends line ReadFaults for_it r same said = absurd for_it
+  second_ends line WriteFault for_it r same said = absurd for_it
+  second_ends line NoMemory for_it r same said = absurd for_it
+  second_ends line TooLarge for_it r same said = absurd for_it
+  second_ends line BadSolution for_it r same said = record { text = r.text; refused = r.refused; line = line; owed = r.owed; shelf = r.shelf; unprinted = same; said = said }
 
   -- the line of a refusal was said
   said_ends : (refusal : Refusal) → CarriesOut request before after old new (Err refusal) → PutsOnce (refusal_line refusal) e0 e1 → Answers request (seen before old e0) (seen after new e1) (refusal_status refusal)
   said_ends (Words fault) done said = absurd done
-  said_ends (Unread name) done said = record {
-    shelf = done.1;
-    unprinted = done.2;
-    said = subst (λ (n : List ℕ). PutsOnce (unread_line n) e0 e1) done.0 said;
-  }
+  said_ends (Unread name) done said = record { name = string_bytes name; shelf = done.0; unprinted = done.1; said = said }
   said_ends (Long name) done said = record {
     line = long_line (string_bytes name);
     why = inl (ap long_line done.0, done.1);
@@ -143,6 +131,7 @@ module _ (request : Request) (before after : ShelfSeen) (old new e0 e1 : SinkSee
     unprinted = done.3;
     said = subst (λ (n : List ℕ). PutsOnce (large_line n t) e0 e1) done.0 said;
   }
+  said_ends (Rejected line status) done said = second_ends line status (subst IsForSecond done.0.refused (for_second request done.0.text done.0.shelf.second)) done.0 done.1 said
   said_ends Unwritten done said = record { text = done.text; status = done.status; owed = done.owed; shelf = done.shelf; printed = done.printed; said = said }
   said_ends Memory done said = starved done said
 
@@ -160,6 +149,7 @@ words_end fault shelf out e0 e1 (Unread name) status done (inl s) = absurd done
 words_end fault shelf out e0 e1 (Long name) status done (inl s) = absurd done
 words_end fault shelf out e0 e1 (BadPlace name place) status done (inl s) = absurd done
 words_end fault shelf out e0 e1 (Large name t) status done (inl s) = absurd done
+words_end fault shelf out e0 e1 (Rejected line refused) status done (inl s) = absurd done
 words_end fault shelf out e0 e1 Unwritten status done (inl s) = absurd done
 words_end fault shelf out e0 e1 Memory status done (inl s) = inr s
 

@@ -1,19 +1,26 @@
--- A fault of compiling, as a fault of a command's work.
-use Rattle.std.proofs.Common.{◌≡◌, ◌∙◌, ℕ, sym, subst, Result, Ok, Err, IfErr, IsErrAnd}
+-- A fault of compiling or want of memory, as a fault of a command's work.
+use Rattle.std.proofs.Common.{◌≡◌, ℕ, refl, sym, subst, inl, Result, Ok, Err, IsErrAnd}
 use Rattle.packing_laws.specs.Instances.{InstanceValue}
 use Rattle.arc_compile.specs.declared.results.CompileFault.{CompileFault}
 use Rattle.arc_compile.specs.declared.results.CompileFault.TheVariants as compile
 use Rattle.arc_compile.specs.Graphs.{IsTooLarge}
+use Rattle.command_words.specs.Requests.{Request, MakesGraphs}
+use Rattle.arc_program.specs.declared.commands.Report.{Report}
 use Rattle.arc_program.specs.declared.commands.WorkFault.{WorkFault}
 use Rattle.arc_program.specs.declared.commands.WorkFault.TheVariants as work
-use Rattle.arc_program.specs.inner.Work.{IsWorkFault}
+use Rattle.arc_program.specs.World.{ShelfSeen}
+use Rattle.arc_program.specs.inner.Work.{IsWorkFault, Works}
 
--- where compiling found too many arcs, the graphs are too large
-pub work_large : (I : InstanceValue) (Makes : Type 0) (cause : CompileFault) (fault : WorkFault) → Makes → IsWorkFault cause fault → ((t : ℕ) → cause ≡ compile.TooManyArcs t → IsTooLarge I t) → (t : ℕ) → fault ≡ work.Large t → Makes × IsTooLarge I t
-work_large I Makes (compile.TooManyArcs s) fault makes is large t e = (makes, large t (let same : work.Large s ≡ work.Large t = sym is ∙ e in cc))
-work_large I Makes compile.Memory fault makes is large t e = absurd (let clash : work.Memory ≡ work.Large t = sym is ∙ e in cc)
+module _ (request : Request) (I : InstanceValue) (shelf : ShelfSeen) where
+  -- where compiling found too many arcs, the graphs are too large
+  compile_fault : (cause : CompileFault) (fault : WorkFault) → MakesGraphs request → IsWorkFault cause fault → ((t : ℕ) → cause ≡ compile.TooManyArcs t → IsTooLarge I t) → Works request I shelf shelf (Err fault)
+  compile_fault (compile.TooManyArcs s) fault makes is large = subst (λ (f : WorkFault). Works request I shelf shelf (Err f)) (sym is) (makes, large s refl, refl)
+  compile_fault compile.Memory fault makes is large = subst (λ (f : WorkFault). Works request I shelf shelf (Err f)) (sym is) (inl refl)
 
--- what holds of a fault
-pub if_err : {T E : Type 0} (r : Result T E) (Q P : E → Type 0) → IsErrAnd r Q → ((fault : E) → Q fault → P fault) → IfErr r P
-if_err (Ok x) Q P here f = tt
-if_err (Err fault) Q P here f = f fault here
+  pub works_not : (cause : CompileFault) (r : Result Report WorkFault) → MakesGraphs request → IsErrAnd r (IsWorkFault cause) → ((t : ℕ) → cause ≡ compile.TooManyArcs t → IsTooLarge I t) → Works request I shelf shelf r
+  works_not cause (Ok report) makes here large = absurd here
+  works_not cause (Err fault) makes here large = compile_fault cause fault makes here large
+
+  pub works_starved : (r : Result Report WorkFault) → IsErrAnd r (λ fault. fault ≡ work.Memory) → Works request I shelf shelf r
+  works_starved (Ok report) here = absurd here
+  works_starved (Err fault) here = subst (λ (f : WorkFault). Works request I shelf shelf (Err f)) (sym here) (inl refl)

@@ -1,36 +1,39 @@
 -- How a run ends: by its status, why it ended so, what it did to the shelf, what its report on `out` is, and what it said on `err`.
-use Rattle.std.specs.Prelude.{◌≡◌, ℕ, ◌⊎◌, List, IfSome, IsSomeAnd, Result, Ok, Err}
+use Rattle.std.specs.Prelude.{◌≡◌, ℕ, ◌⊎◌, List, Option, None, Some, IfSome, IsSomeAnd, Result, Ok, Err}
+use Rattle.arc_num.specs.declared.TheConstants.{MAX_INSTANCE}
 use Rattle.arc_io.specs.declared.IoFault.TheVariants as io
 use Rattle.arc_io.specs.Bytes.{Told, Files}
 use Rattle.arc_io.specs.Faults.{Rose}
 use Rattle.packing_laws.specs.declared.fault.ReadFault.{ReadFault}
 use Rattle.packing_laws.specs.Instances.{InstanceValue}
-use Rattle.arc_compile.specs.Graphs.{IsTooLarge}
+use Rattle.arc_compile.specs.Graphs.{IsSmall, IsTooLarge}
 use Rattle.command_words.specs.declared.faults.WordFault.{WordFault}
 use Rattle.arc_program.specs.declared.status.Status.{Status}
-use Rattle.arc_program.specs.declared.status.Status.TheVariants.{Done, Bracketed, Usage, BadInstance, BadCertificate, ReadFault as ReadFaults, WriteFault, NoMemory, TooLarge}
+use Rattle.arc_program.specs.declared.status.Status.TheVariants.{Done, Bracketed, Usage, BadInstance, BadCertificate, ReadFault as ReadFaults, WriteFault, NoMemory, TooLarge, BadSolution}
 use Rattle.command_words.specs.Requests.{Request}
 use Rattle.arc_program.specs.World.{ShelfSeen, World}
 use Rattle.arc_program.specs.Reading.{HasRead, HasFailed, MayHaveRead}
+use Rattle.arc_program.specs.Texts.{TextValue, second_text, second_held, ThenReads, HasReadAll}
 use Rattle.arc_program.specs.Printing.{Line, PutsOnce, PutsText, CutsOff}
 use Rattle.command_words.specs.Lines.{word_fault_line}
 use Rattle.arc_program.specs.Refusals.{unread_line, long_line, place_line, large_line, output_line, memory_line}
 use Rattle.command_words.specs.Requests.{name_of, MakesGraphs}
-use Rattle.arc_program.specs.Requests.{Writes, IsRead, IsLong, IsBadAt, IsRefused, IsLargeAt, HasInstance}
+use Rattle.arc_program.specs.Requests.{Writes, IsRead, IsLong, IsBadAt, IsRefused, IsLargeAt, IsGood}
 use Rattle.arc_program.specs.Statuses.{IsReported}
-use Rattle.arc_program.specs.commands.{IsReport}
+use Rattle.arc_program.specs.commands.{IsReport, IsRejection, IsFit}
 
--- the text is a report that is owed for the instance under the name that is asked about, and this is the status of a run that prints it
+-- the text is a report that is owed for the instance under the name that is asked about, and for the second text; and this is the
+-- status of a run that prints it
 pub record IsOwed (request : Request) (shelf : ShelfSeen) (status : Status) (text : List ℕ) : Type 0 where
   pub instance : InstanceValue
   pub read : IsRead request shelf.held instance
-  pub report : IsReport request instance status text
+  pub report : IsReport request (second_held request shelf.held) instance status text
 
 -- the report was taken whole, and nothing was said
 pub record Reports (request : Request) (before after : World) (status : Status) : Type 0 where
   pub text : List ℕ
   pub owed : IsOwed request before.shelf status text
-  pub shelf : HasRead (name_of request) before.shelf after.shelf
+  pub shelf : HasReadAll request before.shelf after.shelf
   pub printed : PutsText text before.out after.out
   pub silent : after.err ≡ before.err
 
@@ -44,7 +47,7 @@ SaysWhy request held line =
 pub record RefusesBytes (request : Request) (before after : World) : Type 0 where
   pub line : Line
   pub why : SaysWhy request (before.shelf.held (name_of request)) line
-  pub shelf : HasRead (name_of request) before.shelf after.shelf
+  pub shelf : HasRead (name_of request) MAX_INSTANCE before.shelf after.shelf
   pub unprinted : after.out ≡ before.out
   pub said : PutsOnce line before.err after.err
 
@@ -55,22 +58,46 @@ pub record RefusesGraphs (request : Request) (before after : World) : Type 0 whe
   pub read : IsRead request before.shelf.held instance
   pub t : ℕ
   pub large : IsTooLarge instance t
-  pub shelf : HasRead (name_of request) before.shelf after.shelf
+  pub shelf : HasRead (name_of request) MAX_INSTANCE before.shelf after.shelf
   pub unprinted : after.out ≡ before.out
   pub said : PutsOnce (large_line (name_of request) t) before.err after.err
 
+-- the line says why the second text is refused for the instance that was read, which is small where graphs are made of it
+pub record IsOwedRejection (request : Request) (text : TextValue) (shelf : ShelfSeen) (line : Line) : Type 0 where
+  pub instance : InstanceValue
+  pub read : IsRead request shelf.held instance
+  pub small : MakesGraphs request → IsSmall instance
+  pub why : IsRejection request (shelf.held text.name) instance line
+
+-- the second text is refused with this status; nothing was printed, and why was said
+pub record RefusesSecond (request : Request) (before after : World) (status : Status) : Type 0 where
+  pub text : TextValue
+  pub refused : text.refused ≡ status
+  pub line : Line
+  pub owed : IsOwedRejection request text before.shelf line
+  pub shelf : ThenReads request text HasRead before.shelf after.shelf
+  pub unprinted : after.out ≡ before.out
+  pub said : PutsOnce line before.err after.err
+
+-- a read of the text under this name failed: of the instance, or of the second text behind it
+abbrev pub FailsAt : Request → List ℕ → ShelfSeen → ShelfSeen → Type 0
+FailsAt request name before after =
+    ((name ≡ name_of request) × HasFailed (name_of request) MAX_INSTANCE before after)
+    ⊎ ((text : TextValue) × (name ≡ text.name) × ThenReads request text HasFailed before after)
+
 -- a read failed; nothing was printed, and the name that could not be read was said
 pub record CannotRead (request : Request) (before after : World) : Type 0 where
-  pub shelf : HasFailed (name_of request) before.shelf after.shelf
+  pub name : List ℕ
+  pub shelf : FailsAt request name before.shelf after.shelf
   pub unprinted : after.out ≡ before.out
-  pub said : PutsOnce (unread_line (name_of request)) before.err after.err
+  pub said : PutsOnce (unread_line name) before.err after.err
 
 -- the report was cut off by a put of `out` that failed, and that was said
 pub record CannotWrite (request : Request) (before after : World) : Type 0 where
   pub text : List ℕ
   pub status : Status
   pub owed : IsOwed request before.shelf status text
-  pub shelf : HasRead (name_of request) before.shelf after.shelf
+  pub shelf : HasReadAll request before.shelf after.shelf
   pub printed : CutsOff io.Failed text before.out after.out
   pub said : PutsOnce output_line before.err after.err
 
@@ -79,12 +106,18 @@ pub record Starves (request : Request) (before after : World) : Type 0 where
   pub text : List ℕ
   pub status : Status
   pub owed : IsOwed request before.shelf status text
-  pub shelf : HasRead (name_of request) before.shelf after.shelf
+  pub shelf : HasReadAll request before.shelf after.shelf
   pub printed : CutsOff io.Memory text before.out after.out
+
+-- the instance may have been read, or it was, and the second text may have been
+abbrev pub MayHaveReadAll : Request → ShelfSeen → ShelfSeen → Type 0
+MayHaveReadAll request before after =
+    MayHaveRead (name_of request) MAX_INSTANCE before after
+    ⊎ ((text : TextValue) × ThenReads request text MayHaveRead before after)
 
 -- memory was wanting, and that was said; nothing was printed, but where `out` itself found none
 pub record LacksMemory (request : Request) (before after : World) : Type 0 where
-  pub shelf : MayHaveRead (name_of request) before.shelf after.shelf
+  pub shelf : MayHaveReadAll request before.shelf after.shelf
   pub printed : (after.out ≡ before.out) ⊎ Starves request before after
   pub said : PutsOnce memory_line before.err after.err
 
@@ -94,11 +127,12 @@ Answers request before after Done = Reports request before after Done
 Answers request before after Bracketed = Reports request before after Bracketed
 Answers request before after Usage = ⊥
 Answers request before after BadInstance = RefusesBytes request before after
-Answers request before after BadCertificate = ⊥
+Answers request before after BadCertificate = RefusesSecond request before after BadCertificate
 Answers request before after ReadFaults = CannotRead request before after
 Answers request before after WriteFault = CannotWrite request before after
 Answers request before after NoMemory = LacksMemory request before after
 Answers request before after TooLarge = RefusesGraphs request before after
+Answers request before after BadSolution = RefusesSecond request before after BadSolution
 
 -- how a run ends whose words have this fault: it says so, or lacks memory; nothing is read and nothing printed
 pub record RefusesWords (fault : WordFault) (before after : World) (status : Status) : Type 0 where
@@ -120,11 +154,21 @@ KeepsTo (Err fault) before after = after ≡ before
 abbrev pub ComesOut : Status → Status → Type 0
 ComesOut expected status = (status ≡ expected) ⊎ ((status ≡ ReadFaults) ⊎ (status ≡ NoMemory))
 
--- what the bytes under the name must lead to
+-- the bytes of the second text are told, and are refused for the instance
+abbrev pub IsRejected : Request → Told → InstanceValue → Type 0
+IsRejected request second I = IsSomeAnd second (λ bytes. (line : Line) × IsRejection request (Some bytes) I line)
+
+-- where there is a second text, its bytes are told, and such that there is a report
+abbrev pub HasFit : Request → Files → InstanceValue → Option TextValue → Type 0
+HasFit request held I None = Unit {0}
+HasFit request held I (Some text) = IsSomeAnd (held text.name) (IsFit request I)
+
+-- what the bytes under the names must lead to
 pub record MustEnd (request : Request) (bytes : List ℕ) (before after : World) (status : Status) : Type 0 where
   pub refused : IsRefused request bytes → ComesOut BadInstance status
   pub large : (t : ℕ) → MakesGraphs request → IsLargeAt request t bytes → ComesOut TooLarge status
-  pub accepted : HasInstance request bytes → ¬ Rose before.shelf.read_faults after.shelf.read_faults → ¬ Rose before.out.faults after.out.faults → IsReported status ⊎ (status ≡ NoMemory)
+  pub rejected : (I : InstanceValue) (text : TextValue) → second_text request ≡ Some text → IsGood request bytes I → IsRejected request (before.shelf.held text.name) I → ComesOut text.refused status
+  pub accepted : (I : InstanceValue) → IsGood request bytes I → HasFit request before.shelf.held I (second_text request) → ¬ Rose before.shelf.read_faults after.shelf.read_faults → ¬ Rose before.out.faults after.out.faults → IsReported status ⊎ (status ≡ NoMemory)
 
 -- each cause is seen: a fault of the words, and where the bytes under the name are told, theirs; nothing else comes where they spell an
 -- instance and nothing failed

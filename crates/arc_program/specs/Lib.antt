@@ -1,10 +1,13 @@
 pub mod World
 pub mod Reading
+pub mod Texts
 pub mod Printing
 pub mod Reports
 pub mod Refusals
 pub mod Statuses
 pub mod Requests
+pub mod Kept
+pub mod Rejections
 pub mod commands
 pub mod Ends
 pub mod inner

@@ -1,5 +1,5 @@
 -- What a sink has taken: a line at a time, each in one put.
-use Rattle.std.specs.Prelude.{◌≡◌, ℕ, ◌==◌, if◌then◌else◌, List, [], ◌∷◌, ◌++◌, take, Some, IfSome, Result, Ok, Err}
+use Rattle.std.specs.Prelude.{◌≡◌, ℕ, ◌==◌, if◌then◌else◌, List, [], ◌∷◌, ◌++◌, take, Some, IfSome, Result, Err}
 use Rattle.arc_io.specs.Bytes.{Told, Appends}
 use Rattle.arc_io.specs.Faults.{CountsFault, CountsCall, CountsMemory, raised}
 use Rattle.arc_io.specs.declared.IoFault.{IoFault}

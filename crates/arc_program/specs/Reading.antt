@@ -1,33 +1,32 @@
 -- What a run does to the shelf while it reads the bytes of one name.
 use Rattle.std.specs.Prelude.{◌≡◌, ℕ, ◌+◌, ◌≤◌, ◌⊎◌, List, [], drop, Some, IfSome}
-use Rattle.arc_num.specs.declared.TheConstants.{MAX_INSTANCE}
 use Rattle.arc_io.specs.Faults.{Rose}
 use Rattle.arc_program.specs.World.{ShelfSeen}
 
--- of the bytes of the name some first ones were taken: no more than an instance may have, and one more
-abbrev pub TakesFirst : List ℕ → ShelfSeen → ShelfSeen → Type 0
-TakesFirst name before after = IfSome (before.held name) (λ bytes. (n : ℕ) × (n ≤ MAX_INSTANCE + 1) × (after.left ≡ Some (drop n bytes)))
+-- of the bytes of the name some first ones were taken: no more than there may be, and one more
+abbrev pub TakesFirst : List ℕ → ℕ → ShelfSeen → ShelfSeen → Type 0
+TakesFirst name most before after = IfSome (before.held name) (λ bytes. (n : ℕ) × (n ≤ most + 1) × (after.left ≡ Some (drop n bytes)))
 
 -- nothing is left, since a start was refused
 abbrev pub LeavesNothing : ShelfSeen → ShelfSeen → Type 0
 LeavesNothing before after = IfSome before.left (λ _. after.left ≡ Some [])
 
 -- the name was asked for last, no read failed, and not too many bytes were taken
-pub record HasRead (name : List ℕ) (before after : ShelfSeen) : Type 0 where
+pub record HasRead (name : List ℕ) (most : ℕ) (before after : ShelfSeen) : Type 0 where
   pub asked : IfSome before.asked (λ _. after.asked ≡ Some name)
-  pub taken : TakesFirst name before after
+  pub taken : TakesFirst name most before after
   pub faults : after.read_faults ≡ before.read_faults
 
 -- the name was asked for last, and a read failed
-pub record HasFailed (name : List ℕ) (before after : ShelfSeen) : Type 0 where
+pub record HasFailed (name : List ℕ) (most : ℕ) (before after : ShelfSeen) : Type 0 where
   pub asked : IfSome before.asked (λ _. after.asked ≡ Some name)
-  pub taken : LeavesNothing before after ⊎ TakesFirst name before after
+  pub taken : LeavesNothing before after ⊎ TakesFirst name most before after
   pub faults : Rose before.read_faults after.read_faults
 
 -- the name was asked for last, or none was
-pub record MayHaveRead (name : List ℕ) (before after : ShelfSeen) : Type 0 where
+pub record MayHaveRead (name : List ℕ) (most : ℕ) (before after : ShelfSeen) : Type 0 where
   pub asked : IfSome before.asked (λ old. (after.asked ≡ Some old) ⊎ (after.asked ≡ Some name))
-  pub taken : (after.left ≡ before.left) ⊎ (LeavesNothing before after ⊎ TakesFirst name before after)
+  pub taken : (after.left ≡ before.left) ⊎ (LeavesNothing before after ⊎ TakesFirst name most before after)
   pub faults : (after.read_faults ≡ before.read_faults) ⊎ Rose before.read_faults after.read_faults
 
 -- what is held and what is written is as before, and no write failed

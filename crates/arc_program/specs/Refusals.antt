@@ -4,7 +4,7 @@ use Rattle.packing_laws.specs.declared.fault.ReadFault.{ReadFault}
 use Rattle.packing_laws.specs.declared.fault.ReadFault.TheVariants as read
 use Rattle.command_words.specs.Lines.{word_fault_line}
 use Rattle.arc_program.specs.declared.refusals.Refusal.{Refusal}
-use Rattle.arc_program.specs.declared.refusals.Refusal.TheVariants.{Words, Unread, Long, BadPlace, Large, Unwritten, Memory}
+use Rattle.arc_program.specs.declared.refusals.Refusal.TheVariants.{Words, Unread, Long, BadPlace, Large, Rejected, Unwritten, Memory}
 use Rattle.arc_program.specs.declared.status.Status.{Status}
 use Rattle.arc_program.specs.declared.status.Status.TheVariants.{Usage, BadInstance, ReadFault as ReadFaults, WriteFault, NoMemory, TooLarge}
 
@@ -36,7 +36,7 @@ memory_line = codes "vpack: out of memory\n"
 abbrev pub output_line : List ℕ
 output_line = codes "vpack: cannot write output\n"
 
--- the line on an instance that could not be read
+-- the line on a text that could not be read
 abbrev pub unread_line : List ℕ → List ℕ
 unread_line name = codes "vpack: cannot read " ++ name ++ codes "\n"
 
@@ -55,6 +55,7 @@ refusal_line (Unread name) = unread_line (string_bytes name)
 refusal_line (Long name) = long_line (string_bytes name)
 refusal_line (BadPlace name fault) = place_line (string_bytes name) fault
 refusal_line (Large name t) = large_line (string_bytes name) t
+refusal_line (Rejected line status) = line
 refusal_line Unwritten = output_line
 refusal_line Memory = memory_line
 
@@ -65,5 +66,6 @@ refusal_status (Unread name) = ReadFaults
 refusal_status (Long name) = BadInstance
 refusal_status (BadPlace name fault) = BadInstance
 refusal_status (Large name t) = TooLarge
+refusal_status (Rejected line status) = status
 refusal_status Unwritten = WriteFault
 refusal_status Memory = NoMemory

@@ -42,6 +42,14 @@ bins_in Infeasible = []
 abbrev pub answer_text : Answer → List ℕ
 answer_text answer = first_line answer ++ bins_text (bins_in answer)
 
+-- the first line of the report on a packing
+abbrev pub packing_line : ℕ → List ℕ
+packing_line cost = codes "packing " ++ decimal cost ++ codes "\n"
+
+-- the report on a packing of this cost
+abbrev pub packing_text : ℕ → List Bin → List ℕ
+packing_text cost bins = packing_line cost ++ bins_text bins
+
 -- the first line of the report on graphs, in two parts
 abbrev pub dims_and_types : InstanceValue → List ℕ
 dims_and_types I = codes "dims " ++ decimal I.dims ++ codes " types " ++ decimal (length I.types)

@@ -1,13 +1,13 @@
 -- What a request says of the bytes under the name that it asks about, and what it may write.
-use Rattle.std.specs.Prelude.{◌≡◌, ℕ, ◌<◌, ◌≤◌, ◌⊎◌, Bool, true, false, List, length, IfSome}
+use Rattle.std.specs.Prelude.{ℕ, ◌<◌, ◌≤◌, ◌⊎◌, Bool, true, false, List, length, IfSome}
 use Rattle.arc_num.specs.declared.TheConstants.{MAX_INSTANCE}
-use Rattle.arc_io.specs.Bytes.{Told, Files}
+use Rattle.arc_io.specs.Bytes.{Files}
 use Rattle.arc_compile.specs.Graphs.{IsSmall, IsTooLarge}
 use Rattle.packing_laws.specs.declared.fault.ReadFault.{ReadFault}
 use Rattle.packing_laws.specs.Instances.{InstanceValue, IsInstance}
 use Rattle.packing_laws.specs.Layouts as layouts
 use Rattle.packing_laws.specs.Layouts.{Layout, Vbp, Mvp}
-use Rattle.command_words.specs.Requests.{Request, Compiles, Solves, Exports, name_of, is_mvp_of, MakesGraphs}
+use Rattle.command_words.specs.Requests.{Request, Compiles, Solves, Exports, Extracts, name_of, is_mvp_of, MakesGraphs}
 use Rattle.arc_program.specs.World.{ShelfSeen}
 use Rattle.arc_program.specs.Reading.{KeepsWritten}
 
@@ -21,9 +21,10 @@ layout_of request = layout_for (is_mvp_of request)
 
 -- what is written on the shelf: nothing is asked for there
 abbrev pub Writes : Request → ShelfSeen → ShelfSeen → Type 0
-Writes (Compiles name mvp) before after = KeepsWritten before after
-Writes (Solves name mvp) before after = KeepsWritten before after
+Writes (Compiles name mvp workers) before after = KeepsWritten before after
+Writes (Solves name mvp workers) before after = KeepsWritten before after
 Writes (Exports name mvp) before after = KeepsWritten before after
+Writes (Extracts name solution mvp) before after = KeepsWritten before after
 
 -- the bytes spell the instance, and are not too many
 abbrev pub IsAccepted : Request → List ℕ → InstanceValue → Type 0
@@ -45,9 +46,9 @@ IsRefused request bytes = IsLong bytes ⊎ ((fault : ReadFault) × IsBadAt reque
 abbrev pub IsLargeAt : Request → ℕ → List ℕ → Type 0
 IsLargeAt request t bytes = (I : InstanceValue) × IsAccepted request bytes I × IsTooLarge I t
 
--- the bytes spell an instance, which is small where graphs are made of it
-abbrev pub HasInstance : Request → List ℕ → Type 0
-HasInstance request bytes = (I : InstanceValue) × IsAccepted request bytes I × (MakesGraphs request → IsSmall I)
+-- the bytes spell the instance, which is small where graphs are made of it
+abbrev pub IsGood : Request → List ℕ → InstanceValue → Type 0
+IsGood request bytes I = IsAccepted request bytes I × (MakesGraphs request → IsSmall I)
 
 -- the instance that was read: the bytes under the name spell it, where they are told
 pub record IsRead (request : Request) (held : Files) (I : InstanceValue) : Type 0 where

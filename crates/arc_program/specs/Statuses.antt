@@ -1,7 +1,7 @@
 -- The exit status of each way to end.
 use Rattle.std.specs.Prelude.{ℕ}
 use Rattle.arc_program.specs.declared.status.Status.{Status}
-use Rattle.arc_program.specs.declared.status.Status.TheVariants.{Done, Bracketed, Usage, BadInstance, BadCertificate, ReadFault, WriteFault, NoMemory, TooLarge}
+use Rattle.arc_program.specs.declared.status.Status.TheVariants.{Done, Bracketed, Usage, BadInstance, BadCertificate, ReadFault, WriteFault, NoMemory, TooLarge, BadSolution}
 
 abbrev pub code_of : Status → ℕ
 code_of Done = 0
@@ -13,6 +13,7 @@ code_of ReadFault = 5
 code_of WriteFault = 6
 code_of NoMemory = 7
 code_of TooLarge = 8
+code_of BadSolution = 9
 
 -- the report was taken whole
 abbrev pub IsReported : Status → Type 0
@@ -25,3 +26,4 @@ IsReported ReadFault = ⊥
 IsReported WriteFault = ⊥
 IsReported NoMemory = ⊥
 IsReported TooLarge = ⊥
+IsReported BadSolution = ⊥

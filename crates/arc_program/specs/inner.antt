@@ -4,3 +4,4 @@ pub mod Inputs
 pub mod Printing
 pub mod Work
 pub mod Performed
+pub mod Extracting

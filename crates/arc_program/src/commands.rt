@@ -1,19 +1,19 @@
 //! What each command does with an instance that was read. A command is a file here and one in `specs/commands/`.
 
-ghost use Rattle.std.specs.Prelude.{◌≡◌, ℕ, IfOk, IfErr};
-ghost use Rattle.arc_compile.specs.Graphs.{IsTooLarge};
-ghost use Rattle.command_words.specs.Requests.{request_of};
-ghost use Rattle.command_words.specs.Requests.{MakesGraphs};
-ghost use Rattle.arc_program.specs.Statuses.{IsReported};
-ghost use Rattle.arc_program.specs.commands.{IsReport};
+ghost use Rattle.command_words.specs.Requests.{request_of, HasWorkers};
+ghost use Rattle.arc_program.specs.World.{shelf_seen};
+ghost use Rattle.arc_program.specs.Reading.{KeepsWritten};
+ghost use Rattle.arc_program.specs.inner.Work.{Works};
 
 mod compile;
 mod export;
+mod extract;
 mod solve;
 
 use crate::loading::Text;
 use crate::status::Status;
 use arc_compile::CompileFault;
+use arc_io::Shelf;
 use arc_num::Memory;
 use command_words::Command;
 use packing_laws::Instance;
@@ -29,11 +29,17 @@ pub struct Report {
 }
 
 /// Why there is no report on an instance.
-#[derive(Clone, Copy, Debug, PartialEq, Eq, Error)]
+#[derive(Debug, Drop, Error)]
 pub enum WorkFault {
     /// The main graphs of the types up to this one have more than 1,000,000 arcs together.
     #[error("type {t}: too many arcs")]
     Large { t: u32 },
+    /// The second text, under this name, could not be read.
+    #[error("cannot read {name}")]
+    Unread { name: String },
+    /// The second text is refused: the line that says why, and the status of a run that says it.
+    #[error("refused")]
+    Rejected { line: Text, status: Status },
     /// Want of memory.
     #[error("out of memory")]
     Memory,
@@ -63,20 +69,24 @@ impl From<Memory> for WorkFault {
     }
 }
 
-/// Does a command's own work.
-pub fn work_on<R: Threads + Sync>(
+/// Does a command's own work, and reads the second text, where the command has one.
+pub fn work_on<R: Threads + Sync, H: Shelf>(
     rt: &R,
     alloc: Global,
     command: &Command,
     instance: &Instance,
+    shelf: &mut H,
 ) -> Result<Report, WorkFault>
-    ensures reported { IfOk result (λ report. IsReported report.status) }
-    ensures report { IfOk result (λ report. IsReport (request_of command.now) instance.now report.status report.text) }
-    ensures large { IfErr result (λ fault. (t : ℕ) → fault ≡ WorkFault.Large t → MakesGraphs (request_of command.now) × IsTooLarge instance.now t) }
+    requires { HasWorkers (request_of command.now) }
+    ensures works { Works (request_of command.now) instance.now (shelf_seen H.Shelf shelf.old) (shelf_seen H.Shelf shelf.new) result }
+    ensures writes { KeepsWritten (shelf_seen H.Shelf shelf.old) (shelf_seen H.Shelf shelf.new) }
 {
     match command {
-        Command::Compile { .. } => Ok(compile::report(rt, alloc, instance)?),
+        Command::Compile { workers, .. } => Ok(compile::report(rt, alloc, instance, *workers)?),
         Command::Solve { .. } => Ok(solve::report(alloc, instance)?),
         Command::Export { .. } => Ok(export::report(rt, alloc, instance)?),
+        Command::Extract { solution, .. } => {
+            extract::report(rt, alloc, instance, solution.as_str(), shelf)
+        }
     }
 }

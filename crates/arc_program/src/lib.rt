@@ -4,10 +4,12 @@
 mod answers;
 mod commands;
 mod inputs;
+mod kept;
 mod loading;
 mod performing;
 mod printing;
 mod refusals;
+mod rejections;
 mod reports;
 mod runs;
 mod status;

@@ -1,17 +1,18 @@
 //! What a run does, up to what it has still to say.
 
-ghost use Rattle.std.specs.Prelude.{◌≡◌, ◌⊎◌, ℕ, Result, Err, IfOk, Some, map, string_bytes};
-ghost use Rattle.arc_compile.specs.Graphs.{IsTooLarge};
+ghost use Rattle.std.specs.Prelude.{◌≡◌, Result, Err, map, string_bytes};
+ghost use Rattle.arc_num.specs.declared.TheConstants.{MAX_INSTANCE};
 ghost use Rattle.packing_laws.specs.Instances.{InstanceValue};
 ghost use Rattle.command_words.specs.declared.faults.WordFault.{WordFault};
 ghost use Rattle.command_words.specs.Requests.{Request, words_of, request_of};
 ghost use Rattle.command_words.specs.Faults.{FaultIs};
 ghost use Rattle.arc_program.specs.World.{ShelfSeen, SinkSeen, shelf_seen, sink_seen};
-ghost use Rattle.command_words.specs.Requests.{name_of, MakesGraphs};
+ghost use Rattle.command_words.specs.Requests.{name_of, HasWorkers};
 ghost use Rattle.arc_program.specs.Requests.{IsRead};
 ghost use Rattle.arc_program.specs.Reading.{HasRead, KeepsWritten};
 ghost use Rattle.arc_program.specs.Ends.{KeepsTo};
 ghost use Rattle.arc_program.specs.inner.Inputs.{IsInput};
+ghost use Rattle.arc_program.specs.inner.Work.{Works};
 ghost use Rattle.arc_program.specs.inner.Performed.{CarriesOut, Performs};
 
 use crate::commands::{WorkFault, work_on};
@@ -48,15 +49,17 @@ fn input_refusal(name: String, fault: InputFault) -> Refusal
 
 /// The refusal that a fault of the work on the instance under this name is.
 fn work_refusal(name: String, fault: WorkFault) -> Refusal
-    ensures { (request : Request) (before after : ShelfSeen) (out : SinkSeen) (I : InstanceValue) → string_bytes name ≡ name_of request → IsRead request before.held I → HasRead (name_of request) before after → ((t : ℕ) → fault ≡ WorkFault.Large t → MakesGraphs request × IsTooLarge I t) → CarriesOut request before after out out (Err result) }
+    ensures { (request : Request) (before between after : ShelfSeen) (out : SinkSeen) (I : InstanceValue) → string_bytes name ≡ name_of request → IsRead request before.held I → HasRead (name_of request) MAX_INSTANCE before between → KeepsWritten before between → Works request I between after (Err fault) → CarriesOut request before after out out (Err result) }
 {
     match fault {
         WorkFault::Large { t } => Refusal::Large { name, t },
+        WorkFault::Unread { name } => Refusal::Unread { name },
+        WorkFault::Rejected { line, status } => Refusal::Rejected { line, status },
         WorkFault::Memory => Refusal::Memory,
     }
 }
 
-/// Reads the instance that a command names, and prints its report.
+/// Reads the texts that a command names, and prints its report.
 fn carry_out<R: Threads + Sync, H: Shelf, K: Sink>(
     rt: &R,
     alloc: Global,
@@ -64,6 +67,7 @@ fn carry_out<R: Threads + Sync, H: Shelf, K: Sink>(
     shelf: &mut H,
     out: &mut K,
 ) -> Result<Status, Refusal>
+    requires { HasWorkers (request_of command) }
     ensures done { CarriesOut (request_of command) (shelf_seen H.Shelf shelf.old) (shelf_seen H.Shelf shelf.new) (sink_seen K.Sink out.old) (sink_seen K.Sink out.new) result }
     ensures writes { KeepsWritten (shelf_seen H.Shelf shelf.old) (shelf_seen H.Shelf shelf.new) }
 {
@@ -71,7 +75,7 @@ fn carry_out<R: Threads + Sync, H: Shelf, K: Sink>(
         Ok(instance) => instance,
         Err(fault) => return Err(input_refusal(command.into_name(), fault)),
     };
-    let report = match work_on(rt, alloc, &command, &instance) {
+    let report = match work_on(rt, alloc, &command, &instance, shelf) {
         Ok(report) => report,
         Err(fault) => return Err(work_refusal(command.into_name(), fault)),
     };

@@ -4,6 +4,7 @@ ghost use Rattle.std.specs.Prelude.{◌≡◌, ◌++◌, IfOk, string_bytes, cod
 ghost use Rattle.command_words.specs.Lines.{word_fault_line};
 ghost use Rattle.arc_program.specs.Refusals.{token_line, place_line, refusal_line, refusal_status, named_line, no_weight, large_line};
 
+use crate::loading::Text;
 use crate::status::Status;
 use arc_num::Memory;
 use command_words::{WordFault, push_word_fault};
@@ -15,7 +16,7 @@ use std::alloc::{AllocError, Global};
 pub enum Refusal {
     /// The words ask for nothing.
     Words { fault: WordFault },
-    /// The instance could not be read.
+    /// The text under this name could not be read.
     Unread { name: String },
     /// The instance has more than 67,108,864 bytes.
     Long { name: String },
@@ -23,6 +24,8 @@ pub enum Refusal {
     BadPlace { name: String, fault: ReadFault },
     /// The main graphs of the types up to this one have more than 1,000,000 arcs together.
     Large { name: String, t: u32 },
+    /// The second text is refused: the line that says why, and the status.
+    Rejected { line: Text, status: Status },
     /// The report could not be written.
     Unwritten,
     /// Want of memory.
@@ -84,7 +87,8 @@ fn unread_text(alloc: Global, name: &str) -> Result<String, AllocError>
     format!(in alloc; "vpack: cannot read {name}\n")
 }
 
-fn long_text(alloc: Global, name: &str) -> Result<String, AllocError>
+/// The line on a text under this name that is too long.
+pub fn long_text(alloc: Global, name: &str) -> Result<String, AllocError>
     ensures { IfOk result (λ line. string_bytes line ≡ named_line name.now (codes "too long")) }
 {
     format!(in alloc; "vpack: {name}: too long\n")
@@ -94,6 +98,13 @@ fn large_text(alloc: Global, name: &str, t: u32) -> Result<String, AllocError>
     ensures { IfOk result (λ line. string_bytes line ≡ large_line name.now t) }
 {
     format!(in alloc; "vpack: {name}: type {t}: too many arcs\n")
+}
+
+fn copied(alloc: Global, line: &[u8]) -> Result<Vec<u8>, Memory>
+    ensures { IfOk result (λ copy. copy.items ≡ line.now) }
+{
+    let copy = Vec::from_slice(alloc, line)?;
+    Ok(copy)
 }
 
 /// The line on a refusal.
@@ -106,6 +117,7 @@ pub fn refusal_text(alloc: Global, refusal: &Refusal) -> Result<Vec<u8>, Memory>
         Refusal::Long { name } => long_text(alloc, name.as_str())?,
         Refusal::BadPlace { name, fault } => place_text(alloc, name.as_str(), *fault)?,
         Refusal::Large { name, t } => large_text(alloc, name.as_str(), *t)?,
+        Refusal::Rejected { line, .. } => return copied(alloc, line.as_slice()),
         Refusal::Unwritten => String::from_str(alloc, "vpack: cannot write output\n")?,
         Refusal::Memory => String::from_str(alloc, "vpack: out of memory\n")?,
     };
@@ -123,6 +135,7 @@ impl Refusal {
             Refusal::Long { .. } => Status::BadInstance,
             Refusal::BadPlace { .. } => Status::BadInstance,
             Refusal::Large { .. } => Status::TooLarge,
+            Refusal::Rejected { status, .. } => *status,
             Refusal::Unwritten => Status::WriteFault,
             Refusal::Memory => Status::NoMemory,
         }

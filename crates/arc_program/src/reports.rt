@@ -41,7 +41,7 @@ fn push_bin(out: &mut Vec<u8>, bin: &Bin) -> Result<(), Memory>
     push_bytes(out, b"\n")
 }
 
-fn push_bins(out: &mut Vec<u8>, bins: &[Bin]) -> Result<(), Memory>
+pub fn push_bins(out: &mut Vec<u8>, bins: &[Bin]) -> Result<(), Memory>
     ensures { OnOk result (out.new.items ≡ out.old.items ++ bins_text bins.now) }
 {
     for bin in bins {

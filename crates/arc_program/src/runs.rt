@@ -5,12 +5,13 @@ ghost use Rattle.command_words.specs.Requests.{words_of};
 ghost use Rattle.arc_program.specs.World.{shelf_seen, sink_seen, world_of};
 ghost use Rattle.arc_program.specs.Printing.{PutsOnce};
 ghost use Rattle.arc_program.specs.Ends.{Ends, KeepsTo, IsExact};
+ghost use Rattle.arc_program.specs.commands.{FitIsNotRejected};
 ghost use Rattle.arc_program.specs.inner.Performed.{IsSaid, SmallIsNotLarge};
 
 use crate::performing::perform;
 use crate::refusals::{Refusal, refusal_text};
 use crate::status::Status;
-use arc_compile::sizes_are_one;
+use arc_compile::{compiled_graphs_are_one, sizes_are_one};
 use arc_io::{Shelf, Sink};
 use std::alloc::Global;
 use std::thread::Threads;
@@ -22,6 +23,13 @@ fn small_is_not_large()
     sizes_are_one();
     vbp_reader::a_text_reads_as_its_row();
     mvp_reader::a_text_reads_as_its_row();
+}
+
+/// A call that costs nothing: no second text is both refused and such that there is a report.
+fn fit_is_not_rejected()
+    ensures { FitIsNotRejected }
+{
+    compiled_graphs_are_one();
 }
 
 /// Puts a line, whatever the sink answers.
@@ -59,7 +67,7 @@ fn refuse<E: Sink>(alloc: Global, err: &mut E, refusal: &Refusal) -> Status
     }
 }
 
-/// Does all that the program does: reads the words and the instance that they name from `shelf`, prints the report
+/// Does all that the program does: reads the words and the texts that they name from `shelf`, prints the report
 /// on `out`, and says a refusal in one line on `err`. The status is the exit status of the program.
 pub fn run<R: Threads + Sync, H: Shelf, K: Sink, E: Sink>(
     rt: &R,
@@ -83,6 +91,7 @@ pub fn run<R: Threads + Sync, H: Shelf, K: Sink, E: Sink>(
         KeepsTo (words_of (map string_bytes words.now)) before after }
 {
     small_is_not_large();
+    fit_is_not_rejected();
     match perform(rt, alloc, words, shelf, out) {
         Ok(status) => status,
         Err(refusal) => refuse(alloc, err, &refusal),

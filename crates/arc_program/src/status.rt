@@ -22,10 +22,12 @@ pub enum Status {
     NoMemory,
     /// The graphs have too many arcs.
     TooLarge,
+    /// The text is no solution of the exported model.
+    BadSolution,
 }
 
 impl Status {
-    /// The exit status of the program: 0 to 8, in the order above.
+    /// The exit status of the program: 0 to 9, in the order above.
     pub fn code(&self) -> u8
         ensures { result ≡ code_of self.now }
     {
@@ -39,6 +41,7 @@ impl Status {
             Status::WriteFault => 6,
             Status::NoMemory => 7,
             Status::TooLarge => 8,
+            Status::BadSolution => 9,
         }
     }
 }

@@ -1,10 +1,7 @@
 //! Examples that the commands are known by. Each says its status, so a run that only gives up is refused by them.
-mod calls;
-mod compile;
-mod export;
+mod examples;
 mod outside;
-mod refusals;
-mod solve;
+mod solutions;
 
 use crate::{Status, run};
 use arc_io::{MemShelf, MemSink, NamedBytes};

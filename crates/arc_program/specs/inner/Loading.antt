@@ -34,7 +34,7 @@ CountsLoad (Err Memory) before after = after ≡ before
 
 -- the text is all that the name holds and is not too long, or what it holds is too long, or it could not be read
 abbrev pub Loads : List ℕ → Result (List ℕ) LoadFault → ShelfSeen → ShelfSeen → Type 0
-Loads name (Ok text) before after = (length text ≤ MAX_INSTANCE) × IfSome (before.held name) (λ bytes. text ≡ bytes) × HasRead name before after
-Loads name (Err Failed) before after = HasFailed name before after
-Loads name (Err Long) before after = IfSome (before.held name) (λ bytes. MAX_INSTANCE < length bytes) × HasRead name before after
-Loads name (Err Memory) before after = MayHaveRead name before after
+Loads name (Ok text) before after = (length text ≤ MAX_INSTANCE) × IfSome (before.held name) (λ bytes. text ≡ bytes) × HasRead name MAX_INSTANCE before after
+Loads name (Err Failed) before after = HasFailed name MAX_INSTANCE before after
+Loads name (Err Long) before after = IfSome (before.held name) (λ bytes. MAX_INSTANCE < length bytes) × HasRead name MAX_INSTANCE before after
+Loads name (Err Memory) before after = MayHaveRead name MAX_INSTANCE before after

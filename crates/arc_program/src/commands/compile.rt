@@ -1,6 +1,7 @@
 //! The command `compile`: the sizes of an instance's graphs.
 
 ghost use Rattle.std.specs.Prelude.{◌≡◌, ℕ, IfOk, IfErr};
+ghost use Rattle.command_words.specs.Requests.{IsCount};
 ghost use Rattle.arc_compile.specs.Levels.{AreLevelSizes};
 ghost use Rattle.arc_compile.specs.Graphs.{IsSmall, IsTooLarge};
 ghost use Rattle.arc_compile.specs.Compiled.{AreCompiled};
@@ -43,17 +44,19 @@ fn graph_report(alloc: Global, instance: &Instance, compiled: &Compiled) -> Resu
     })
 }
 
-/// The report of `compile`.
+/// The report of `compile`. So many threads may work at once.
 pub fn report<R: Threads + Sync>(
     rt: &R,
     alloc: Global,
     instance: &Instance,
+    workers: u32,
 ) -> Result<Report, CompileFault>
+    requires { IsCount workers }
     ensures reported { IfOk result (λ report. IsReported report.status) }
     ensures text { IfOk result (λ report. IsGraphReport instance.now report.status report.text) }
     ensures large { IfErr result (λ fault. (t : ℕ) → fault ≡ CompileFault.TooManyArcs t → IsTooLarge instance.now t) }
 {
-    let compiled = compile(rt, alloc, instance, 1)?;
+    let compiled = compile(rt, alloc, instance, workers)?;
     match graph_report(alloc, instance, &compiled) {
         Ok(report) => Ok(report),
         Err(Memory) => Err(CompileFault::Memory),

@@ -1,5 +1,5 @@
 use crate::Status;
-use crate::tests::{Outcome, run_over, run_with, shelf_of};
+use crate::tests::{Outcome, run_with, shelf_of};
 use arc_io::MemSink;
 use std::alloc::{AllocError, Global};
 use std::test::Fail;
@@ -49,39 +49,6 @@ fn failing_calls_are_told(rt: HostRuntime) -> Result<(), Fail> {
     ] {
         let outcome = run_failing(&rt, rt.alloc(), shelf, out, err)?;
         assert!(rt; outcome.is(status, told, said), "{shelf} {out} {err}");
-    }
-    Ok(())
-}
-
-/// An instance without items, and blanks up to this many bytes.
-fn padded(alloc: Global, length: usize) -> Result<Vec<u8>, AllocError> {
-    let mut text = Vec::from_slice(alloc, b"1 10 0")?;
-    let blanks = vec![in alloc; b' '; length.saturating_sub(text.len())]?;
-    text.extend_from_slice(blanks.as_slice())?;
-    Ok(text)
-}
-
-#[test]
-fn the_greatest_text_is_read_and_no_greater(rt: HostRuntime) -> Result<(), Fail> {
-    for (length, status, out, said) in [
-        (67_108_864, Status::Done, "optimal 0\n", ""),
-        (
-            67_108_865,
-            Status::BadInstance,
-            "",
-            "vpack: a.vbp: too long\n",
-        ),
-    ] {
-        let text = padded(rt.alloc(), length)?;
-        let outcome = run_over(
-            &rt,
-            rt.alloc(),
-            "solve a.vbp",
-            "a.vbp",
-            text.as_slice(),
-            usize::MAX,
-        )?;
-        assert!(rt; outcome.is(status, out, said), "{length}");
     }
     Ok(())
 }

@@ -1,12 +1,23 @@
-use Rattle.std.proofs.Common.{refl, sym, subst}
+use Rattle.std.proofs.Common.{List, ℕ, refl, string_bytes, sym, subst}
 use Rattle.command_words.specs.declared.commands.Command.{Command}
-use Rattle.command_words.specs.Requests.{request_of}
-use Rattle.command_words.specs.Requests.{MakesGraphs}
-use Rattle.arc_program.proofs.WorkLemmas.{if_err, work_large}
+use Rattle.command_words.specs.Requests.{Extracts, request_of, MakesGraphs}
+use Rattle.arc_program.specs.World.{ShelfSeen, shelf_seen}
+use Rattle.arc_program.specs.inner.Work.{Works}
+use Rattle.arc_program.proofs.WorkLemmas.{works_not}
 use Rattle.arc_program.proofs.commands.work_on.Goals as goal
 
-pub returns-in_err-report-in-Compile-clause-large : goal.returns-in_err-report-in-Compile-clause-large
-returns-in_err-report-in-Compile-clause-large g c = if_err c.from_residual.result _ _ c.from_residual.ensures.1 (λ fault is. work_large c.args.instance.now (MakesGraphs (request_of c.args.command.now)) c.in_err-report-in-Compile.field-0.0 fault (subst (λ (command : Command). MakesGraphs (request_of command)) (sym c.in-Compile.is) refl) is c.in_err-report-in-Compile.ensures.large)
+pub returns-in_err-report-in-Compile-clause-works : goal.returns-in_err-report-in-Compile-clause-works
+returns-in_err-report-in-Compile-clause-works g c =
+    works_not (request_of c.args.command.now) c.args.instance.now _ c.in_err-report-in-Compile.field-0.0 c.from_residual.result (subst (λ (command : Command). MakesGraphs (request_of command)) (sym c.in-Compile.is) refl) c.from_residual.ensures.1 c.in_err-report-in-Compile.ensures.large
 
-pub returns-in_err-report-in-Export-clause-large : goal.returns-in_err-report-in-Export-clause-large
-returns-in_err-report-in-Export-clause-large g c = if_err c.from_residual-in_err-report-in-Export.result _ _ c.from_residual-in_err-report-in-Export.ensures.1 (λ fault is. work_large c.args.instance.now (MakesGraphs (request_of c.args.command.now)) c.in_err-report-in-Export.field-0.0 fault (subst (λ (command : Command). MakesGraphs (request_of command)) (sym c.in-Export.is) refl) is c.in_err-report-in-Export.ensures.large)
+pub returns-in_err-report-in-Export-clause-works : goal.returns-in_err-report-in-Export-clause-works
+returns-in_err-report-in-Export-clause-works g c =
+    works_not (request_of c.args.command.now) c.args.instance.now _ c.in_err-report-in-Export.field-0.0 c.from_residual-in_err-report-in-Export.result (subst (λ (command : Command). MakesGraphs (request_of command)) (sym c.in-Export.is) refl) c.from_residual-in_err-report-in-Export.ensures.1 c.in_err-report-in-Export.ensures.large
+
+pub returns-in-Extract-clause-works : goal.returns-in-Extract-clause-works
+returns-in-Extract-clause-works g c =
+    let before : ShelfSeen = shelf_seen g.H.Shelf c.args.shelf.now in
+    let after : ShelfSeen = shelf_seen g.H.Shelf c.report-in-Extract.new.shelf in
+    let name : List ℕ = string_bytes c.in-Extract.name in
+    subst (λ (command : Command). Works (request_of command) c.args.instance.now before after c.report-in-Extract.result) (sym c.in-Extract.is)
+    (subst (λ (solution : List ℕ). Works (Extracts name solution c.in-Extract.mvp) c.args.instance.now before after c.report-in-Extract.result) c.as_str.ensures.value (c.report-in-Extract.ensures.works name c.in-Extract.mvp))

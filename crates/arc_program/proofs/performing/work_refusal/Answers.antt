@@ -1,7 +1,30 @@
-use Rattle.std.proofs.Common.{refl}
+use Rattle.std.proofs.Common.{refl, sym, subst, inl, Err, string_bytes}
+use Rattle.arc_num.specs.declared.TheConstants.{MAX_INSTANCE}
+use Rattle.command_words.specs.Requests.{name_of}
+use Rattle.arc_program.specs.declared.commands.WorkFault.{WorkFault}
+use Rattle.arc_program.specs.declared.commands.WorkFault.TheVariants as work
+use Rattle.arc_program.specs.World.{ShelfSeen}
+use Rattle.arc_program.specs.Reading.{HasRead}
+use Rattle.arc_program.specs.inner.Work.{Works}
+use Rattle.arc_program.proofs.TextLemmas.{may_have_all, fails_second, rejected_read}
 use Rattle.arc_program.proofs.performing.work_refusal.Goals as goal
 
 pub returns-in-Large : goal.returns-in-Large
-returns-in-Large c = λ request before after out I named read has large.
-    let there = large c.in-Large.t c.in-Large.is in
-    (named, record { makes = there.0; instance = I; read = read; large = there.1 }, has, refl)
+returns-in-Large c = λ request before between after out I named read has keeps works.
+    let w : Works request I between after (Err (work.Large c.in-Large.t)) = subst (λ (f : WorkFault). Works request I between after (Err f)) c.in-Large.is works in
+    (named, record { makes = w.0; instance = I; read = read; large = w.1 }, subst (λ (s : ShelfSeen). HasRead (name_of request) MAX_INSTANCE before s) (sym w.2) has, refl)
+
+pub returns-in-Unread : goal.returns-in-Unread
+returns-in-Unread c = λ request before between after out I named read has keeps works.
+    let w : Works request I between after (Err (work.Unread c.in-Unread.name)) = subst (λ (f : WorkFault). Works request I between after (Err f)) c.in-Unread.is works in
+    (fails_second request before between after has keeps (string_bytes c.in-Unread.name) w.0 w.1 w.2 w.3, refl)
+
+pub returns-in-Rejected : goal.returns-in-Rejected
+returns-in-Rejected c = λ request before between after out I named read has keeps works.
+    let w : Works request I between after (Err (work.Rejected c.in-Rejected.line c.in-Rejected.status)) = subst (λ (f : WorkFault). Works request I between after (Err f)) c.in-Rejected.is works in
+    (rejected_read request before between after has keeps I read c.in-Rejected.line c.in-Rejected.status w, refl)
+
+pub returns-in-Memory : goal.returns-in-Memory
+returns-in-Memory c = λ request before between after out I named read has keeps works.
+    let w : Works request I between after (Err work.Memory) = subst (λ (f : WorkFault). Works request I between after (Err f)) c.in-Memory.is works in
+    (may_have_all request before between after has keeps w, inl refl)
