@@ -1,0 +1,13 @@
+pub mod Cuts
+pub mod InARow
+pub mod Numerals
+pub mod Places
+pub mod Ascending
+pub mod LineParts
+pub mod WholeLines
+pub mod Texts
+pub mod Unread
+pub mod Steps
+pub mod WrittenLines
+pub mod Runs
+pub mod Lengths
