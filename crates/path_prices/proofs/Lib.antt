@@ -1,0 +1,9 @@
+pub mod BestSteps
+pub mod BestWays
+pub mod GainLaws
+pub mod Laying
+pub mod Leading
+pub mod NumberedWays
+pub mod PriceSizes
+pub mod TypeGains
+pub mod Worths
