@@ -1,0 +1,11 @@
+pub mod Heights
+pub mod PricedFlows
+pub mod ItemWorths
+pub mod ArcWorths
+pub mod ClosedBoxes
+pub mod NumbersUpTo
+pub mod Acceptances
+pub mod AcceptedLines
+pub mod Certified
+pub mod NeededFlows
+pub mod ExactFaults
