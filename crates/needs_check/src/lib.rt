@@ -1,0 +1,16 @@
+//! Whether a need of a split holds: that no prices could have spared the split.
+#![tactic(auto)]
+
+mod costs;
+mod demands;
+mod known;
+mod needs;
+mod nodes;
+mod ranges;
+mod room;
+mod tables;
+#[cfg(test)]
+mod tests;
+
+pub use needs::check_need;
+pub use room::NeedRoom;
