@@ -1,0 +1,19 @@
+//! The separate reader of certificates: it goes through the lines one by one, and accepts or refuses each.
+#![tactic(auto)]
+
+mod checker;
+mod faults;
+mod judging;
+mod leaves;
+mod places;
+mod standing;
+#[cfg(test)]
+mod tests;
+mod trails;
+mod whole;
+
+pub use checker::Checker;
+pub use faults::CheckFault;
+pub use leaves::{LeafFault, check_leaf};
+pub use needs_check::{NeedRoom, check_need};
+pub use whole::check;
