@@ -1,0 +1,6 @@
+pub mod BinWeights
+pub mod StepSizes
+pub mod WeightPrices
+pub mod MaterialGains
+pub mod MaterialCloses
+pub mod Accepted

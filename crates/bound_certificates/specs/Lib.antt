@@ -1,0 +1,2 @@
+pub mod MaterialPrices
+pub mod FoundBounds
