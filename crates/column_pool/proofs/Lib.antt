@@ -1,0 +1,2 @@
+mod AwakeNumbers
+mod SameWays
