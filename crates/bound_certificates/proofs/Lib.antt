@@ -1,4 +1,3 @@
-pub mod BinWeights
 pub mod StepSizes
 pub mod WeightPrices
 pub mod MaterialGains

@@ -9,8 +9,7 @@ use Rattle.packing_laws.specs.declared.packings.Count.{Count}
 use Rattle.packing_laws.specs.Instances.{InstanceValue, IsAmong, item_at}
 use Rattle.packing_laws.specs.Packings.{Content}
 use Rattle.packing_laws.specs.Floors.{room_in}
-use Rattle.packing_laws.proofs.MaterialLaw.{least_in, least_weight}
-use Rattle.bound_certificates.proofs.BinWeights.{weighs_within}
+use Rattle.packing_laws.proofs.MaterialLaw.{bin-holds, least_in, least_weight}
 use Rattle.flow_graph.specs.declared.parts.TypeArc.{TypeArc}
 use Rattle.flow_graph.specs.declared.parts.ArcKind.{ArcKind}
 use Rattle.flow_graph.specs.declared.parts.ArcKind.TheVariants.{Bin, Loss, Piece}
@@ -81,6 +80,6 @@ module _ (I : InstanceValue) (d c scale : ℕ) (items : List ItemPrice) (by_weig
   gains_by_weight g faithful dim t among z room numbers path =
       let first = arc_price g (first_arc g t) (Bin t) (has_numbers g t among).bin in
       let way = path_price g t numbers path.0 path.2 in
-      let holds = weighs_within I d t (content_of path.0) dim (faithful.fits t among path.0 path.1) in
+      let holds = bin-holds I d t (content_of path.0) dim (faithful.fits t among path.0 path.1) in
       let scaled : least_in I d (content_of path.0) * c ≤ room_in I d t * c = mul-le-mul_right c holds in
       omega (arith, ints, first, way, scaled, room)

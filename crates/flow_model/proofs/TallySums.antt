@@ -19,7 +19,7 @@ weigh_more f (kind ∷ kinds) (x ∷ values) (suc i) d within size =
     omega (arith, rest)
 
 -- what stands in a raised table
-raised_at : (sums : List ℕ) (p x j : ℕ) → IsAmong p (length sums) → get_or (raised sums p x) j 0 ≡ get_or sums j 0 + cond (p == j + 1) 1 0 * x
+pub raised_at : (sums : List ℕ) (p x j : ℕ) → IsAmong p (length sums) → get_or (raised sums p x) j 0 ≡ get_or sums j 0 + cond (p == j + 1) 1 0 * x
 raised_at sums p x j among = ⊎_elim
     (λ same.
     let here : p - 1 ≡ j = omega (arith, same, among.0) in

@@ -4,8 +4,8 @@ use Rattle.std.specs.List.{filter_map}
 use Rattle.std.proofs.lemmas.List.{get_or_default}
 use Rattle.weight_vec.specs.Weight.{Before}
 use Rattle.label_graph.specs.declared.parts.GraphArc.{GraphArc}
-use Rattle.label_graph.specs.Graph.{GraphValue, IsGraph, ArcBefore}
-use Rattle.label_graph.specs.Images.{IsLabelling, AreDistinct, IsMergedInto}
+use Rattle.label_graph.specs.Graph.{ArcBefore}
+use Rattle.label_graph.specs.Images.{AreDistinct, IsMergedInto}
 use Rattle.label_graph.specs.ImageLaws.{ImagesExist}
 use Rattle.label_graph.specs.inner.Merges.{merged_arc}
 use Rattle.label_graph.proofs.InOrder.{in_order, before-trans, before-compare, arc-trans, arc-compare}

@@ -1,5 +1,5 @@
 -- There is but one image: lists in order with the same members are equal.
-use Rattle.std.proofs.Common.{◌≡◌, ℕ, suc, ◌<◌, List, [], ◌∷◌, length, get_or, refl, sym, ◌∙◌, subst, ⊎_elim, arith}
+use Rattle.std.proofs.Common.{◌≡◌, ℕ, List, [], ◌∷◌, refl, sym, ◌∙◌, subst, ⊎_elim, arith}
 use Rattle.std.specs.Prelude.{Contains, AllPairs}
 use Rattle.weight_vec.specs.Weight.{Before}
 use Rattle.label_graph.specs.declared.parts.Mark.{Mark}

@@ -95,8 +95,8 @@ fn marks_are_in_order()
     ensures { (m n : Mark) → ⟦<Mark as Ord>⟧.cmp m n ≡ Less → MarkBefore m n }
 {}
 
-// A call that costs nothing: the derived order is by tail, head and mark.
-fn arcs_are_in_order()
+/// A call that costs nothing: the derived order of arcs is by tail, head and mark.
+pub fn arcs_are_in_order()
     ensures { (e f : GraphArc) → ⟦<GraphArc as Ord>⟧.cmp e f ≡ Less → ArcBefore e f }
 {
     marks_are_in_order();

@@ -8,12 +8,12 @@ mod lists;
 mod parts;
 
 pub use graph::Graph;
-pub use images::{image, quotient};
+pub use images::{arcs_are_in_order, image, quotient};
 pub use laws::{
     cuts_keep_images, images_are_graphs, images_are_one, images_exist, images_keep_contents,
     labels_bound_weights, nodes_lie_on_paths,
 };
-pub use lists::{known_weights, sort_distinct};
+pub use lists::{known_pieces, known_weights, sort_distinct};
 pub use parts::{GraphArc, GraphFault, Mark, Piece};
 
 #[cfg(test)]

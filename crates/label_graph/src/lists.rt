@@ -4,6 +4,7 @@ ghost use Rattle.std.specs.Prelude.{◌≡◌, ◌↔◌, ◌≤◌, true, All, 
 ghost use Rattle.std.specs.List.Sorted.{IsStrictlySortedBy};
 ghost use Rattle.weight_vec.specs.Weight.{IsInRange};
 
+use crate::parts::Piece;
 use weight_vec::Weights;
 
 /// Sorts a list, and keeps one of each element.
@@ -25,5 +26,16 @@ pub fn known_weights<const N: usize>(weights: &[Weights<N>])
 {
     for weight in weights {
         weight.known();
+    }
+}
+
+/// Changes nothing, in one pass over the pieces: it tells how many numbers the weight of each has, and their range.
+pub fn known_pieces<const N: usize>(pieces: &[Piece<N>])
+    requires small { N ≤ 32 }
+    ensures sized { All (λ q. length q.weight ≡ N) pieces.now }
+    ensures ranged { All (λ q. IsInRange q.weight) pieces.now }
+{
+    for piece in pieces {
+        piece.weight.known();
     }
 }

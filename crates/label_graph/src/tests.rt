@@ -2,9 +2,9 @@ ghost use Rattle.std.specs.Prelude.{◌≡◌, [], ◌∷◌, IfOk};
 ghost use Rattle.label_graph.specs.Worked.{two_pieces, two_nodes};
 
 use crate::{
-    Graph, GraphArc, GraphFault, Mark, Piece, cuts_keep_images, images_are_graphs, images_are_one,
-    images_exist, images_keep_contents, known_weights, labels_bound_weights, nodes_lie_on_paths,
-    quotient, sort_distinct,
+    Graph, GraphArc, GraphFault, Mark, Piece, arcs_are_in_order, cuts_keep_images,
+    images_are_graphs, images_are_one, images_exist, images_keep_contents, known_pieces,
+    known_weights, labels_bound_weights, nodes_lie_on_paths, quotient, sort_distinct,
 };
 use std::alloc::{AllocError, Global};
 use std::test::Fail;
@@ -99,6 +99,7 @@ fn a_graph_keeps_its_parts(rt: HostRuntime) -> Result<(), Fail> {
     let graph = one_node(rt.alloc())?;
     graph.known();
     known_weights(graph.labels());
+    known_pieces(graph.pieces());
     assert_eq!(rt; graph.labels().len(), 1);
     assert!(rt; graph.pieces().is_empty() && graph.arcs().is_empty());
     needs_send(&graph);
@@ -118,6 +119,7 @@ fn marks_and_arcs_are_in_order(rt: HostRuntime) {
         head: 3,
         mark: Mark::Loss,
     };
+    arcs_are_in_order();
     assert!(rt; first < second);
 }
 

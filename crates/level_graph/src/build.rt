@@ -1,12 +1,11 @@
 ghost use Rattle.std.specs.Prelude.{◌≡◌, ◌<◌, ◌≤◌, length, All, AllPairs, Contains, IfOk, OnOk};
-ghost use Rattle.weight_vec.specs.Weight.{IsInRange};
 ghost use Rattle.level_graph.specs.Levels.{IsPieceList, IsLevelGraph, IsLevels, IsNode, StateBefore, target};
 ghost use Rattle.level_graph.specs.inner.Layers.{AreStates, AppendsStep, take_mark, skip_mark, skipped};
 
 use crate::layers::{layer_of, take, used_weights, weights_of};
 use crate::states::State;
 use arc_num::{MAX_ALL_FORMS, Memory};
-use label_graph::{Graph, GraphArc, Mark, Piece, known_weights};
+use label_graph::{Graph, GraphArc, Mark, Piece, known_pieces, known_weights};
 use std::alloc::Global;
 use weight_vec::Weights;
 
@@ -29,17 +28,6 @@ pub fn levels<const N: usize>(
     known_weights(labels.as_slice());
     known_pieces(pieces.as_slice());
     Ok(Graph::new(pieces, labels, arcs))
-}
-
-// Changes nothing, in one pass over the pieces: it tells how many numbers the weight of each piece has, and their range.
-fn known_pieces<const N: usize>(pieces: &[Piece<N>])
-    requires small { N ≤ 32 }
-    ensures sized { All (λ q. length q.weight ≡ N) pieces.now }
-    ensures ranged { All (λ q. IsInRange q.weight) pieces.now }
-{
-    for piece in pieces {
-        piece.weight.known();
-    }
 }
 
 // All states, in order, the target last.

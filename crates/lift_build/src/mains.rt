@@ -1,19 +1,20 @@
 //! The main graph, from what a search has found.
 
 ghost use Rattle.std.specs.Prelude.{◌≡◌, ◌↔◌, ℕ, ◌≤◌, ◌<◌, List, length, map, All, AllPairs, Contains, IfOk, IfErr};
-ghost use Rattle.weight_vec.specs.Weight.{Before, IsInRange};
+ghost use Rattle.weight_vec.specs.Weight.{Before};
 ghost use Rattle.label_graph.specs.declared.parts.GraphArc.{GraphArc};
-ghost use Rattle.label_graph.specs.declared.parts.Mark.{Mark};
-ghost use Rattle.label_graph.specs.Graph.{GraphValue, ArcBefore, MarkBefore};
+ghost use Rattle.label_graph.specs.Graph.{GraphValue, ArcBefore};
 ghost use Rattle.level_graph.specs.Levels.{IsPieceList};
 ghost use Rattle.lift_build.specs.LiftedMains.{IsMainOf};
-ghost use Rattle.std.specs.declared.cmp.Ordering.TheVariants.{Less};
 ghost use Rattle.lift_build.specs.inner.Moves.{HasEnds, ArePlaces, moved_arc};
 ghost use Rattle.lift_build.specs.inner.Numbers.{IsNumber};
 
 use crate::search::search;
 use arc_num::Memory;
-use label_graph::{Graph, GraphArc, GraphFault, Mark, Piece, images_exist, sort_distinct};
+use label_graph::{
+    Graph, GraphArc, GraphFault, Piece, arcs_are_in_order, images_exist, known_pieces,
+    sort_distinct,
+};
 use level_graph::{level_graphs_are_graphs, level_graphs_exist};
 use main_compress::main_graphs_are_graphs;
 use std::alloc::Global;
@@ -49,17 +50,6 @@ pub fn build_main<const N: usize>(
     let arcs = arcs_in_order(alloc, found.arcs.as_slice(), places.as_slice())?;
     let pieces = Vec::from_slice(alloc, pieces)?;
     Ok(Graph::new(pieces, labels, arcs))
-}
-
-// Changes nothing, in one pass over the pieces: it tells how many numbers the weight of each piece has, and their range.
-fn known_pieces<const N: usize>(pieces: &[Piece<N>])
-    requires small { N ≤ 32 }
-    ensures sized { All (λ q. length q.weight ≡ N) pieces.now }
-    ensures ranged { All (λ q. IsInRange q.weight) pieces.now }
-{
-    for piece in pieces {
-        piece.weight.known();
-    }
 }
 
 // The labels in lexicographic order.
@@ -130,16 +120,4 @@ fn moved_arcs(alloc: Global, arcs: &[GraphArc], places: &[u64]) -> Result<Vec<Gr
         })?;
     }
     Ok(moved)
-}
-
-// A call that costs nothing: loss comes before pieces in the derived order.
-fn marks_are_in_order()
-    ensures { (m n : Mark) → ⟦<Mark as Ord>⟧.cmp m n ≡ Less → MarkBefore m n }
-{}
-
-// A call that costs nothing: the derived order is by tail, head and mark.
-fn arcs_are_in_order()
-    ensures { (e f : GraphArc) → ⟦<GraphArc as Ord>⟧.cmp e f ≡ Less → ArcBefore e f }
-{
-    marks_are_in_order();
 }

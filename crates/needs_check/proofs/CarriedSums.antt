@@ -8,21 +8,6 @@ use Rattle.flow_model.specs.Flows.{carries, weigh_arcs}
 use Rattle.flow_model.proofs.TallySums.{weigh_more}
 use Rattle.needs_check.specs.inner.Laid.{HoldsCarried}
 
--- what stands at place j of a table to which x was added at the place of an item
-pub added_at : (sums : List ℕ) (item x j : ℕ) → IsAmong item (length sums) → get_or (set sums (item - 1) (get_or sums (item - 1) 0 + x)) j 0 ≡ get_or sums j 0 + cond (item == j + 1) 1 0 * x
-added_at sums item x j among = ⊎_elim
-    (λ same.
-    let here : item - 1 ≡ j = omega (arith, same, among.0) in
-    let one : cond {A = ℕ} (item == j + 1) 1 0 ≡ 1 = cond-true (item == j + 1) 1 0 (eq-eqb item (j + 1) same) in
-    let there : get_or (set sums j (get_or sums j 0 + x)) j 0 ≡ get_or sums j 0 + x = get_or-set_same sums j (get_or sums j 0 + x) 0 (omega (arith, same, among.1)) in
-    let unit : get_or sums j 0 + x ≡ get_or sums j 0 + 1 * x = omega arith in
-    ap (λ (k : ℕ). get_or (set sums k (get_or sums k 0 + x)) j 0) here ∙ there ∙ unit ∙ ap (λ (n : ℕ). get_or sums j 0 + n * x) (sym one))
-    (λ other.
-    let none : cond {A = ℕ} (item == j + 1) 1 0 ≡ 0 = cond-false (item == j + 1) 1 0 (ne_eqb item (j + 1) other) in
-    let there : get_or (set sums (item - 1) (get_or sums (item - 1) 0 + x)) j 0 ≡ get_or sums j 0 = get_or-set_other sums (item - 1) j (get_or sums (item - 1) 0 + x) 0 (λ e. other (omega (arith, e, among.0))) in
-    rw none (omega (arith, there)))
-    (cases_eq item (j + 1))
-
 one_at_most : (b : Bool) (x : ℕ) → cond {A = ℕ} b 1 0 * x ≤ x
 one_at_most true x = omega arith
 one_at_most false x = omega arith

@@ -34,7 +34,7 @@ shares f n (m ∷ c) =
     rw (sum_by-cons (λ m. m.count * f m.item) m c) (omega arith)
 
 -- a form weighs at least what its item weighs at least
-form-weighs : (I : InstanceValue) (d : ℕ) (n : Count) → Exists I n → n.count * least_weight I d n.item ≤ n.count * slice_index (form_at I n.item n.form) (d - 1)
+pub form-weighs : (I : InstanceValue) (d : ℕ) (n : Count) → Exists I n → n.count * least_weight I d n.item ≤ n.count * slice_index (form_at I n.item n.form) (d - 1)
 form-weighs I d n exists =
     let weight : List ℕ → ℕ = λ v. slice_index v (d - 1) in
     let forms : List (List ℕ) = (item_at I n.item).forms in
@@ -45,7 +45,7 @@ form-weighs I d n exists =
     mul-le-mul_left n.count (omega arith)
 
 -- what fits a bin weighs no more than the bin holds
-bin-holds : (I : InstanceValue) (d t : ℕ) (c : Content) → IsAmong d I.dims → Fits I t c → least_in I d c ≤ room_in I d t
+pub bin-holds : (I : InstanceValue) (d t : ℕ) (c : Content) → IsAmong d I.dims → Fits I t c → least_in I d c ≤ room_in I d t
 bin-holds I d t c among fits =
     let light : least_in I d c ≤ weight_in I d c = sum_by-le-sum_by (λ n. n.count * least_weight I d n.item) (λ n. n.count * slice_index (form_at I n.item n.form) (d - 1)) c (λ k e within. form-weighs I d (get_or c k e) (fits.exists k e within)) in
     let heavy : weight_in I d c ≤ room_in I d t = fits.weight d among in

@@ -2,7 +2,7 @@ use Rattle.std.proofs.Common.{◌≡◌, ◌<◌, length, get_or, subst}
 use Rattle.std.proofs.lemmas.List.Elements.{All-more}
 use Rattle.label_graph.specs.declared.parts.Piece.{Piece}
 use Rattle.weight_vec.specs.Weight.{IsInRange}
-use Rattle.lift_build.proofs.mains.known_pieces.Goals as goal
+use Rattle.label_graph.proofs.lists.known_pieces.Goals as goal
 
 pub loop-piece-preserved : goal.loop-piece-preserved
 loop-piece-preserved g c =

@@ -2,7 +2,7 @@ use Rattle.std.proofs.Common.{◌≡◌, length, take}
 use Rattle.std.specs.Prelude.{All}
 use Rattle.label_graph.specs.declared.parts.Piece.{Piece}
 use Rattle.weight_vec.specs.Weight.{IsInRange}
-use Rattle.lift_build.proofs.mains.known_pieces.Given as goal
+use Rattle.label_graph.proofs.lists.known_pieces.Given as goal
 
 abbrev pub invariant-loop-piece : goal.invariant-loop-piece
 invariant-loop-piece g l = record {
