@@ -5,8 +5,6 @@ mod certificates;
 mod found;
 mod laws;
 mod material;
-#[cfg(test)]
-mod tests;
 
 pub use certificates::bound_certificate;
 pub use found::{BoundKind, FoundBound, find_bound};

@@ -3,8 +3,6 @@
 
 mod causes;
 mod laws;
-#[cfg(test)]
-mod tests;
 
 pub use causes::Cause;
 pub use laws::{certified_is_so, examples_come_out, faults_are_exact, needs_bar_prices};

@@ -20,6 +20,3 @@ pub use lines::{
 };
 pub use reader::CertReader;
 pub use spell::{line_text, write_certificate};
-
-#[cfg(test)]
-mod tests;

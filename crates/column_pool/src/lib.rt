@@ -10,6 +10,3 @@ pub use awake::{Awake, Split, SplitRow};
 pub use columns::{Column, Content};
 pub use pool::{ColumnPool, Place};
 pub use ways::{Arcs, Way};
-
-#[cfg(test)]
-mod tests;

@@ -9,6 +9,3 @@ pub use laws::{
     cuts_keep_final_graphs, final_graphs_are_graphs, final_graphs_are_one,
     final_graphs_keep_contents, final_paths_weigh_no_more,
 };
-
-#[cfg(test)]
-mod tests;

@@ -6,7 +6,5 @@ mod first;
 mod greedy;
 mod pieces;
 mod stock;
-#[cfg(test)]
-mod tests;
 
 pub use first::first_fit;

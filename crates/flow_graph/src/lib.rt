@@ -12,6 +12,3 @@ pub use laws::{
     points_are_counted, potentials_cancel,
 };
 pub use parts::{ArcKind, TypeArc};
-
-#[cfg(test)]
-mod tests;

@@ -11,8 +11,6 @@ mod models;
 mod places;
 mod programs;
 mod tallies;
-#[cfg(test)]
-mod tests;
 mod three_units;
 
 pub use boxes::{FlowBox, root_box};

@@ -15,6 +15,3 @@ pub use laws::{
 };
 pub use lists::{known_pieces, known_weights, sort_distinct};
 pub use parts::{GraphArc, GraphFault, Mark, Piece};
-
-#[cfg(test)]
-mod tests;

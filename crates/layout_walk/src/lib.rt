@@ -12,6 +12,3 @@ pub use laws::each_text_reads_or_has_a_bad_place;
 pub use parts::Parts;
 pub use places::Places;
 pub use vectors::{form, vector};
-
-#[cfg(test)]
-mod tests;

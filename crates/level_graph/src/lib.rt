@@ -13,6 +13,3 @@ pub use laws::{
     choices_have_one_path, cuts_keep_level_graphs, level_graphs_are_graphs, level_graphs_exist,
     levels_are_one, paths_are_choices,
 };
-
-#[cfg(test)]
-mod tests;

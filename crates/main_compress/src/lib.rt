@@ -9,6 +9,3 @@ pub use laws::{
     main_graphs_keep_contents, main_paths_fit,
 };
 pub use mains::compress_main;
-
-#[cfg(test)]
-mod tests;

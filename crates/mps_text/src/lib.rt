@@ -24,6 +24,3 @@ pub use laws::{
 };
 pub use read::read_mps;
 pub use write::write_mps;
-
-#[cfg(test)]
-mod tests;

@@ -137,6 +137,3 @@ fn read_forms(
     }
     Ok(Vectors::new(forms))
 }
-
-#[cfg(test)]
-mod tests;

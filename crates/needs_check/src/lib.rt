@@ -9,8 +9,6 @@ mod nodes;
 mod ranges;
 mod room;
 mod tables;
-#[cfg(test)]
-mod tests;
 
 pub use needs::check_need;
 pub use room::NeedRoom;

@@ -15,8 +15,6 @@ mod packings;
 mod places;
 mod single;
 mod sources;
-#[cfg(test)]
-mod tests;
 mod tidying;
 
 pub use apart::units_apart;

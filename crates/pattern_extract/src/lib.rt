@@ -15,6 +15,3 @@ pub use extracts::{ExtractFault, extract};
 pub use laws::{examples_come_out, flows_are_packings};
 pub use paths::paths_of;
 pub use runs::PathRun;
-
-#[cfg(test)]
-mod tests;

@@ -19,6 +19,3 @@ pub use levels::Level;
 pub use parts::{Aim, Basic, Coefficient, Columns, Row, Sense, Variable};
 pub use prices::Price;
 pub use products::{ONE, POINT};
-
-#[cfg(test)]
-mod tests;

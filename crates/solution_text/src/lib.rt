@@ -7,6 +7,3 @@ mod lines;
 
 pub use faults::SolutionFault;
 pub use lines::read_solution;
-
-#[cfg(test)]
-mod tests;

@@ -3,8 +3,6 @@
 
 mod bounds;
 mod laws;
-#[cfg(test)]
-mod tests;
 mod values;
 
 pub use bounds::{StepFound, step_bound};

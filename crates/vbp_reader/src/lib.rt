@@ -70,6 +70,3 @@ fn read_item(alloc: Global, places: &mut Places, dims: u32, item: u32) -> Result
     let forms = Vectors::new(vec![in alloc; weights]?);
     Ok(Item { demand, forms })
 }
-
-#[cfg(test)]
-mod tests;

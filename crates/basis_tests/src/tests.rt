@@ -1,0 +1,2 @@
+mod bases;
+mod pools;

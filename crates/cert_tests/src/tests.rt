@@ -1,0 +1,4 @@
+mod bounds;
+mod laws;
+mod lines;
+mod needs;

@@ -1,0 +1,6 @@
+mod extracts;
+mod fixtures;
+mod flows;
+mod graphs;
+mod programs;
+mod solutions;

@@ -1,0 +1,5 @@
+mod compressions;
+mod fixtures;
+mod images;
+mod level_graphs;
+mod weights;

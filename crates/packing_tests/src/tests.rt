@@ -1,0 +1,11 @@
+mod caps;
+mod first_packings;
+mod fixtures;
+mod floors;
+mod joined;
+mod layouts;
+mod mvp_texts;
+mod packings;
+mod places;
+mod steps;
+mod vbp_texts;
