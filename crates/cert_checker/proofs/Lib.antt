@@ -4,3 +4,4 @@ pub mod FirstCauses
 pub mod Verdicts
 pub mod Settled
 pub mod TakenLines
+pub mod ToldLines

@@ -26,7 +26,16 @@ pub after_more : (p : Progress) (lines : List CertLine) (line : CertLine) → af
 after_more p [] line = refl
 after_more p (first ∷ lines) line = after_more (after_line p first) lines line
 
-reached_more : (I : InstanceValue) (g : List TypeValue) (p : Progress) (line : CertLine) → IsReached I g p → IsAccepted I g p line → IsReached I g (after_line p line)
+-- lines with some more
+pub accepted_all : (I : InstanceValue) (g : List TypeValue) (p : Progress) (lines more : List CertLine) → AreAccepted I g p lines → AreAccepted I g (after_lines p lines) more → AreAccepted I g p (lines ++ more)
+accepted_all I g p [] more first last = last
+accepted_all I g p (line ∷ lines) more first last = (first.0, accepted_all I g (after_line p line) lines more first.1 last)
+
+pub after_all : (p : Progress) (lines more : List CertLine) → after_lines p (lines ++ more) ≡ after_lines (after_lines p lines) more
+after_all p [] more = refl
+after_all p (line ∷ lines) more = after_all (after_line p line) lines more
+
+pub reached_more : (I : InstanceValue) (g : List TypeValue) (p : Progress) (line : CertLine) → IsReached I g p → IsAccepted I g p line → IsReached I g (after_line p line)
 reached_more I g p line reached accepted =
     let lines : List CertLine = reached.0 in (
       lines ++ line ∷ [],

@@ -1,8 +1,7 @@
 -- What a checker has taken after one more line, and its first fault.
-use Rattle.std.proofs.Common.{◌≡◌, ℕ, ◌+◌, List, [], ◌∷◌, ◌++◌, length, get_or, map, take, drop, ◌<◌, false, refl, sym, ap, ◌∙◌, subst, inl, inr, arith, ⊎_elim}
-use Rattle.std.specs.Prelude.{Option, None, Some, IfErr, IfOk, IfSome, Result, Ok, Err}
-use Rattle.std.proofs.lemmas.List.{append_assoc, length-append, map-append, take_more, take-append-drop}
-use Rattle.cert_text.specs.declared.lines.TreeLine.{TreeLine}
+use Rattle.std.proofs.Common.{◌≡◌, ℕ, ◌+◌, List, [], ◌∷◌, ◌++◌, length, false, refl, sym, ap, ◌∙◌, subst, inl, inr, arith, ⊎_elim}
+use Rattle.std.specs.Prelude.{Option, None, Some, IfErr, IfOk, IfSome, OnOk, Result, Ok, Err}
+use Rattle.std.proofs.lemmas.List.{append_assoc, length-append}
 use Rattle.packing_laws.specs.Instances.{InstanceValue, IsInstance}
 use Rattle.flow_graph.specs.Arcs.{TypeValue, IsFlowGraph}
 use Rattle.flow_graph.specs.Faithful.{IsFaithful}
@@ -12,18 +11,33 @@ use Rattle.cert_laws.specs.declared.causes.Cause.{Cause}
 use Rattle.cert_laws.specs.declared.causes.Cause.TheVariants.{Unfinished}
 use Rattle.cert_text.specs.declared.lines.Claim.{Claim}
 use Rattle.cert_laws.specs.Shown.{CertifiedIsSo, IsCertified, IsFault, Shows}
-use Rattle.cert_laws.specs.Rules.{Progress, after_line, after_lines, at_start, IsAccepted, IsRefused, IsFirstRefused}
+use Rattle.cert_laws.specs.Rules.{Progress, after_line, after_lines, at_start, AreAccepted, IsAccepted, IsRefused, IsFirstRefused}
 use Rattle.cert_checker.specs.declared.faults.CheckFault.{CheckFault}
-use Rattle.cert_checker.specs.Checkers.{CheckerValue, IsStepped, IsStepFault, IsFinished, after_accepted}
+use Rattle.cert_checker.specs.Checkers.{CheckerValue, IsStepped, IsSteppedBy, IsStepFault, IsBatchFault, IsOneRefused, IsFinished, after_accepted, after_all_accepted}
 use Rattle.cert_checker.specs.Faults.{refusal_of}
 use Rattle.cert_checker.specs.inner.Taken.{HasTaken, IsTakenFault}
-use Rattle.cert_checker.proofs.Settled.{accepted_more, after_more}
+use Rattle.cert_checker.proofs.Settled.{accepted_all, accepted_more, after_all, after_more}
 
-counts : (p : Progress) (line : CertLine) → (after_line p line).count ≡ p.count + 1
+pub counts : (p : Progress) (line : CertLine) → (after_line p line).count ≡ p.count + 1
 counts p (cert.Head version) = refl
 counts p (cert.Claim claim goal) = refl
 counts p (cert.Tree line) = refl
 counts p cert.End = refl
+
+-- how many lines count
+pub counts_all : (p : Progress) (lines : List CertLine) → (after_lines p lines).count ≡ p.count + length lines
+counts_all p [] = omega arith
+counts_all p (line ∷ lines) =
+    let one = counts p line in
+    let rest = counts_all (after_line p line) lines in
+    omega (arith, one, rest)
+
+module _ (I : InstanceValue) (g : List TypeValue) (before : List CertLine) (s : CheckerValue) (has : HasTaken I g before s) where
+  own_all : (lines : List CertLine) → AreAccepted s.instance s.graph s.progress lines → AreAccepted I g (after_lines (at_start I g) before) lines
+  own_all lines accepted =
+      subst (λ (p : Progress). AreAccepted I g p lines) has.progress
+      (subst (λ (h : List TypeValue). AreAccepted I h s.progress lines) has.graph
+      (subst (λ (J : InstanceValue). AreAccepted J s.graph s.progress lines) has.instance accepted))
 
 module _ (I : InstanceValue) (g : List TypeValue) (before : List CertLine) (s : CheckerValue) (has : HasTaken I g before s) (line : CertLine) where
   own : IsAccepted s.instance s.graph s.progress line → IsAccepted I g (after_lines (at_start I g) before) line
@@ -74,6 +88,59 @@ module _ (I : InstanceValue) (g : List TypeValue) (before : List CertLine) (s : 
 pub fault_of_one : (I : InstanceValue) (g : List TypeValue) (before : List CertLine) (s : CheckerValue) → HasTaken I g before s → (line : CertLine) (new : CheckerValue) (fault : CheckFault) → IsStepped s line (Err fault) new → IsTakenFault I g before (line ∷ []) fault
 fault_of_one I g before s has line new fault stepped after = taken_fault I g before s has line new fault stepped after
 
+-- several lines are taken, or one of them is refused, whatever comes after them
+module _ (I : InstanceValue) (g : List TypeValue) (before : List CertLine) (s new : CheckerValue) (has : HasTaken I g before s) (lines : List CertLine) where
+  taken_all : AreAccepted s.instance s.graph s.progress lines → new ≡ after_all_accepted s lines → HasTaken I g (before ++ lines) new
+  taken_all accepted is =
+      let size = length-append before lines in
+      let count = has.count in
+      let more = counts_all s.progress lines in
+      let on : HasTaken I g (before ++ lines) (after_all_accepted s lines) = record {
+        instance = has.instance;
+        graph = has.graph;
+        free = has.free;
+        accepted = accepted_all I g (at_start I g) before lines has.accepted (own_all I g before s has lines accepted);
+        progress = ap (λ (p : Progress). after_lines p lines) has.progress ∙ sym (after_all (at_start I g) before lines);
+        count = omega (arith, size, count, more);
+      } in
+      subst (λ (x : CheckerValue). HasTaken I g (before ++ lines) x) (sym is) on
+
+  one_refused : (after : List CertLine) (r : ℕ × Cause) → IsOneRefused s lines r new → IsFirstRefused I g (at_start I g) (before ++ (lines ++ after)) r.0 r.1
+  one_refused after r one =
+      let size = length-append before one.first.before in
+      let count = has.count in
+      let place = one.first.place in
+      record {
+        before = before ++ one.first.before;
+        line = one.first.line;
+        after = one.first.after ++ after;
+        all =
+            ap (λ (ls : List CertLine). before ++ (ls ++ after)) one.first.all
+            ∙ (ap (λ (ls : List CertLine). before ++ ls) (append_assoc one.first.before (one.first.line ∷ one.first.after) after)
+            ∙ sym (append_assoc before one.first.before (one.first.line ∷ (one.first.after ++ after))));
+        accepted = accepted_all I g (at_start I g) before one.first.before has.accepted (own_all I g before s has one.first.before one.first.accepted);
+        refused =
+            subst (λ (p : Progress). IsRefused I g p one.first.line r.1) (ap (λ (p : Progress). after_lines p one.first.before) has.progress ∙ sym (after_all (at_start I g) before one.first.before))
+            (subst (λ (h : List TypeValue). IsRefused I h (after_lines s.progress one.first.before) one.first.line r.1) has.graph
+            (subst (λ (J : InstanceValue). IsRefused J s.graph (after_lines s.progress one.first.before) one.first.line r.1) has.instance one.first.refused));
+        place = omega (arith, size, count, place);
+      }
+
+  batch_refused : (after : List CertLine) (refusal : Option (ℕ × Cause)) → IsBatchFault s lines refusal new → IfSome refusal (λ r. IsFirstRefused I g (at_start I g) (before ++ (lines ++ after)) r.0 r.1)
+  batch_refused after None fault = tt
+  batch_refused after (Some r) fault = ⊎_elim
+      (λ earlier. absurd (let bad : None ≡ Some r = sym has.free ∙ earlier.0 in cc))
+      (λ one. one_refused after r one)
+      fault
+
+  pub all_taken : (result : Result (Unit {0}) CheckFault) → IsSteppedBy s lines result new → OnOk result (HasTaken I g (before ++ lines) new)
+  all_taken (Ok done) stepped = taken_all stepped.1 stepped.2
+  all_taken (Err fault) stepped = tt
+
+  pub one_of_them : (result : Result (Unit {0}) CheckFault) → IsSteppedBy s lines result new → IfErr result (IsTakenFault I g before lines)
+  one_of_them (Ok done) stepped = tt
+  one_of_them (Err fault) stepped = λ after. batch_refused after (refusal_of fault) stepped
+
 -- the end is taken, and the certificate is whole
 pub certified : (I : InstanceValue) (g : List TypeValue) (before : List CertLine) (s : CheckerValue) (claim : Claim) → HasTaken I g before s → IsFinished s (Ok claim) → IsCertified I g before claim
 certified I g before s claim has finished = record {
@@ -98,29 +165,6 @@ not_certified I g before s fault has finished = ⊎_elim
 pub as_fault : (I : InstanceValue) (g : List TypeValue) (lines : List CertLine) (refusal : Option (ℕ × Cause)) → IfSome refusal (λ r. IsFirstRefused I g (at_start I g) lines r.0 r.1) → IfSome refusal (λ r. IsFault I g lines r.0 r.1)
 as_fault I g lines None h = tt
 as_fault I g lines (Some r) h = inl h
-
--- the places of the tree, cut at one of them
-module _ (xs : List TreeLine) (i : ℕ) (x : TreeLine) (within : i < length xs) (there : x ≡ get_or xs i x) where
-  pub one_more : (before : List CertLine) → (before ++ map (λ y. cert.Tree y) (take i xs)) ++ cert.Tree x ∷ [] ≡ before ++ map (λ y. cert.Tree y) (take (i + 1) xs)
-  one_more before =
-      append_assoc before (map (λ y. cert.Tree y) (take i xs)) (cert.Tree x ∷ [])
-      ∙ ap (λ (ls : List CertLine). before ++ ls)
-      (sym (map-append (λ y. cert.Tree y) (take i xs) (x ∷ []))
-      ∙ ap (λ (ys : List TreeLine). map (λ y. cert.Tree y) ys) (ap (λ (y : TreeLine). take i xs ++ y ∷ []) there ∙ sym (take_more xs i x within)))
-
-  pub cut_here : (before after : List CertLine) → (before ++ map (λ y. cert.Tree y) (take i xs)) ++ cert.Tree x ∷ (map (λ y. cert.Tree y) (drop (i + 1) xs) ++ after) ≡ before ++ (map (λ y. cert.Tree y) xs ++ after)
-  cut_here before after =
-      let rest : List CertLine = map (λ y. cert.Tree y) (drop (i + 1) xs) ++ after in
-      let whole : map (λ y. cert.Tree y) (take (i + 1) xs) ++ map (λ y. cert.Tree y) (drop (i + 1) xs) ≡ map (λ y. cert.Tree y) xs =
-      sym (map-append (λ y. cert.Tree y) (take (i + 1) xs) (drop (i + 1) xs)) ∙ ap (λ (ys : List TreeLine). map (λ y. cert.Tree y) ys) (take-append-drop (i + 1) xs) in
-      sym (append_assoc (before ++ map (λ y. cert.Tree y) (take i xs)) (cert.Tree x ∷ []) rest)
-      ∙ ap (λ (ls : List CertLine). ls ++ rest) (one_more before)
-      ∙ append_assoc before (map (λ y. cert.Tree y) (take (i + 1) xs)) rest
-      ∙ ap (λ (ls : List CertLine). before ++ ls) (sym (append_assoc (map (λ y. cert.Tree y) (take (i + 1) xs)) (map (λ y. cert.Tree y) (drop (i + 1) xs)) after) ∙ ap (λ (ls : List CertLine). ls ++ after) whole)
-
--- one more line counts
-pub counts_more : (s new : CheckerValue) (line : CertLine) → IsStepped s line (Ok tt) new → new.progress.count ≡ s.progress.count + 1
-counts_more s new line stepped = ap (λ (x : CheckerValue). x.progress.count) stepped.2 ∙ counts s.progress line
 
 -- the same of an answer
 pub whole_ok : (I : InstanceValue) (g : List TypeValue) (lines : List CertLine) (s : CheckerValue) → HasTaken I g lines s → (result : Result Claim CheckFault) → IsFinished s result → IfOk result (λ claim. IsCertified I g lines claim)

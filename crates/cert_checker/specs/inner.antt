@@ -5,3 +5,5 @@ pub mod Ready
 pub mod Rising
 pub mod Standing
 pub mod Judging
+pub mod LineRefs
+pub mod Runs

@@ -4,8 +4,10 @@ ghost use Rattle.std.specs.Prelude.{◌≡◌, Some};
 ghost use Rattle.cert_checker.specs.Faults.{refusal_of};
 
 use crate::faults::CheckFault;
+use crate::lines::Line;
+use crate::runs::side_by_side;
 use crate::standing::Standing;
-use arc_num::Memory;
+use arc_num::{Gate, MAX_WORKERS, Memory, NoGate};
 use cert_laws::{Cause, certified_is_so};
 use cert_text::{CertLine, Claim, TreeLine};
 use flow_graph::FlowGraph;
@@ -15,11 +17,13 @@ use packing_laws::Instance;
 use path_prices::Scratch;
 use std::alloc::Global;
 use std::marker::Model;
+use std::thread::Threads;
 
 /// Takes the lines of a certificate one after the other. It keeps one box and a branch for each split on the way to it, and no
 /// list of lines. After a refusal each later call answers the same.
 #[derive(Debug, Drop)]
 pub struct Checker<'a> {
+    alloc: Global,
     instance: &'a Instance,
     graph: &'a FlowGraph,
     standing: Standing,
@@ -40,15 +44,16 @@ impl<'a> Model for Checker<'a> {
 }
 
 impl<'a> Checker<'a> {
-    ghost use Rattle.std.specs.Prelude.{◌≡◌, ℕ, ◌+◌, ◌^◌, ◌<◌, None, OnOk, IfOk};
-    ghost use Rattle.packing_laws.specs.Instances.{InstanceValue};
+    ghost use Rattle.std.specs.Prelude.{◌≡◌, ◌+◌, ◌^◌, ◌<◌, ◌≤◌, None, IfOk, length, map};
     ghost use Rattle.flow_graph.specs.Faithful.{GraphOf, IsFaithful};
     ghost use Rattle.cert_laws.specs.Shown.{Shows};
     ghost use Rattle.cert_text.specs.declared.lines.CertLine.{CertLine};
     ghost use Rattle.cert_laws.specs.Rules.{at_start};
-    ghost use Rattle.cert_checker.specs.Checkers.{IsStepped, IsFinished};
+    ghost use Rattle.cert_checker.specs.Checkers.{IsStepped, IsSteppedBy, IsFinished};
+    ghost use Rattle.packing_laws.specs.Instances.{IsAmong};
     ghost use Rattle.cert_checker.specs.inner.Standing.{most_lines};
     ghost use Rattle.cert_checker.specs.inner.Ready.{IsSettled};
+    ghost use Rattle.arc_num.specs.declared.TheConstants.{MAX_WORKERS};
 
     /// A checker before the first line.
     pub fn new(
@@ -64,6 +69,7 @@ impl<'a> Checker<'a> {
         let scratch = Scratch::new(alloc, graph, instance)?;
         let room = NeedRoom::new(alloc, graph, instance)?;
         Ok(Checker {
+            alloc,
             instance,
             graph,
             standing: Standing::new(alloc, root),
@@ -84,6 +90,50 @@ impl<'a> Checker<'a> {
             CertLine::Tree(place) => self.step_place(place),
             CertLine::End => self.step_end(),
         }
+    }
+
+    /// Takes the next lines, whose leaves are judged side by side, by as many workers as there are. The result does not depend on
+    /// their number. Each worker has a box, a trail and rooms of its own while the call lasts.
+    pub fn step_batch<R: Threads + Sync>(
+        &mut self,
+        rt: &R,
+        lines: &[CertLine],
+        workers: u32,
+    ) -> Result<(), CheckFault>
+        requires workers { IsAmong workers MAX_WORKERS }
+        requires few { self.old.progress.count + length lines.now ≤ 2 ^ 62 }
+        ensures { IsSteppedBy self.old lines.now result self.new }
+    {
+        self.step_all(rt, lines, workers, &NoGate)
+    }
+
+    /// Takes the next lines, each leaf once the gate has let it through.
+    pub(crate) fn step_all<R: Threads + Sync, G: Gate + Sync, T: Line>(
+        &mut self,
+        rt: &R,
+        lines: &[T],
+        workers: u32,
+        gate: &G,
+    ) -> Result<(), CheckFault>
+        requires { self.old.progress.count + length lines.now ≤ most_lines }
+        ensures { IsSteppedBy self.old (map T.told lines.now) result self.new }
+    {
+        if let Some((line, cause)) = self.refusal {
+            return Err(fault_at(line, cause));
+        }
+        let judged = side_by_side(
+            rt,
+            self.alloc,
+            self.instance,
+            self.graph,
+            gate,
+            &self.standing,
+            lines,
+            0,
+            workers,
+        )?;
+        self.standing = judged.standing;
+        self.settle(judged.refusal)
     }
 
     /// Answers what the certificate shows, after its last line. It takes no memory. Over a faithful graph no packing costs less

@@ -8,8 +8,8 @@ ghost use Rattle.flow_graph.specs.Faithful.{GraphOf};
 ghost use Rattle.cert_text.specs.declared.lines.Claim.{Claim};
 ghost use Rattle.cert_text.specs.declared.lines.TreeLine.{TreeLine};
 ghost use Rattle.cert_text.specs.Lines.{ArePrices, IsNeed, IsClaim, IsTreeLine};
-ghost use Rattle.cert_laws.specs.Rules.{Box, ClaimsAtMost};
-ghost use Rattle.path_prices.specs.Scratches.{IsScratchOf, NamesAmong};
+ghost use Rattle.cert_laws.specs.Rules.{Box, ClaimsAtMost, SplitsBox};
+ghost use Rattle.path_prices.specs.Scratches.{IsScratchOf};
 ghost use Rattle.needs_check.specs.Rooms.{IsNeedRoomOf};
 ghost use Rattle.cert_checker.specs.inner.Judging.{KeepsPlace, IsFirstCause};
 
@@ -30,6 +30,17 @@ fn is_genuine(ranges: &FlowBox, arc: u32, cut: u32) -> bool
     match ranges.range(arc) {
         Some((lower, upper)) => lower <= cut && cut < upper,
         None => false,
+    }
+}
+
+/// Whether a place of the tree splits no range, or leaves numbers of it on both sides.
+pub(crate) fn splits(ranges: &FlowBox, line: &TreeLine) -> bool
+    ensures { IsTrue result ↔ SplitsBox ranges.now line.now }
+{
+    match line {
+        TreeLine::Split { arc, k } => is_genuine(ranges, *arc, *k),
+        TreeLine::Needed { arc, k, .. } => is_genuine(ranges, *arc, *k),
+        TreeLine::Leaf(_) | TreeLine::Step { .. } => true,
     }
 }
 

@@ -5,7 +5,9 @@ mod checker;
 mod faults;
 mod judging;
 mod leaves;
+mod lines;
 mod places;
+mod runs;
 mod standing;
 #[cfg(test)]
 mod tests;
@@ -16,4 +18,4 @@ pub use checker::Checker;
 pub use faults::CheckFault;
 pub use leaves::{LeafFault, check_leaf};
 pub use needs_check::{NeedRoom, check_need};
-pub use whole::check;
+pub use whole::{check, check_gated};

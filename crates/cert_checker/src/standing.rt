@@ -1,6 +1,7 @@
 //! How far a certificate was read.
 
 use crate::judging;
+use crate::lines::LineRef;
 use crate::places::{is_claim_place, is_head_place, is_tree_place};
 use crate::trails::Walk;
 use arc_num::Memory;
@@ -38,7 +39,7 @@ impl Model for Standing {
 }
 
 impl Standing {
-    ghost use Rattle.std.specs.Prelude.{◌≡◌, ℕ, ◌+◌, ◌≤◌, ◌<◌, List, IfOk, OnOk, OnErr, length};
+    ghost use Rattle.std.specs.Prelude.{◌≡◌, ◌+◌, ◌≤◌, ◌<◌, true, List, [], ◌∷◌, IfOk, OnOk, OnErr, length};
     ghost use Rattle.packing_laws.specs.Instances.{InstanceValue};
     ghost use Rattle.flow_graph.specs.Arcs.{TypeValue, numbered};
     ghost use Rattle.flow_graph.specs.Faithful.{GraphOf};
@@ -48,6 +49,8 @@ impl Standing {
     ghost use Rattle.needs_check.specs.Rooms.{IsNeedRoomOf};
     ghost use Rattle.cert_checker.specs.inner.Judging.{IsVerdict};
     ghost use Rattle.cert_checker.specs.inner.Standing.{IsTold, first_progress, most_lines};
+    ghost use Rattle.cert_checker.specs.inner.Runs.{behind};
+    ghost use Rattle.cert_checker.specs.inner.LineRefs.{line_of};
 
     /// Before the first line, with the root box open.
     pub(crate) fn new(alloc: Global, root: FlowBox) -> Standing
@@ -62,6 +65,20 @@ impl Standing {
             walk: Walk::new(alloc, root),
             is_ended: false,
         }
+    }
+
+    /// The same once more.
+    pub(crate) fn copied(&self) -> Result<Standing, Memory>
+        ensures { IfOk result (λ standing. standing ≡ self.now) }
+    {
+        Ok(Standing {
+            count: self.count,
+            version: self.version,
+            claim: self.claim,
+            goal: self.goal,
+            walk: self.walk.copied()?,
+            is_ended: self.is_ended,
+        })
     }
 
     /// How many lines count.
@@ -216,5 +233,30 @@ impl Standing {
         self.walk.pass(line)?;
         self.count += 1;
         Ok(())
+    }
+
+    /// Goes on behind a line as if it were accepted, and tells whether it could.
+    pub(crate) fn skip(&mut self, line: LineRef<'_>) -> Result<bool, Memory>
+        requires { self.old.progress.count < most_lines }
+        ensures { IfOk result (λ done. done ≡ true → self.new ≡ behind self.old (line_of line.entry ∷ [])) }
+    {
+        match line {
+            LineRef::Head { version } => Ok(self.tell_head(version).is_none()),
+            LineRef::Claim { claim, goal } => Ok(self.tell_claim(claim, goal).is_none()),
+            LineRef::Place(line) => self.skip_place(line),
+            LineRef::End => Ok(self.tell_end().is_none()),
+        }
+    }
+
+    /// Goes on behind a place of the tree, and tells whether it could.
+    fn skip_place(&mut self, line: &TreeLine) -> Result<bool, Memory>
+        requires { self.old.progress.count < most_lines }
+        ensures { IfOk result (λ done. done ≡ true → self.new ≡ behind self.old (CertLine.Tree line.now ∷ [])) }
+    {
+        if !self.walk.is_open() || !judging::splits(self.walk.first(), line) {
+            return Ok(false);
+        }
+        self.pass(line)?;
+        Ok(true)
     }
 }

@@ -1,15 +1,14 @@
 //! Certificates that are worked by hand, for three units of an item of which a bin holds two.
 
-use crate::{CheckFault, Checker, check};
+use crate::{CheckFault, check};
 use arc_num::{Listed, Memory};
-use cert_text::{
-    ArcPart, ArcPrice, CertLine, Certificate, Claim, ItemPrice, Need, Prices, TreeLine,
-};
+use cert_text::{ArcPart, ArcPrice, Certificate, Claim, ItemPrice, Need, Prices, TreeLine};
 use flow_model::{examples_come_out, graph_of_two, three_of_one};
 use std::alloc::Global;
 use std::test::Fail;
 
-fn needs_send<T: Send + Sync>(_value: &T) {}
+mod batches;
+mod singles;
 
 /// What the trees below differ in.
 #[derive(Clone, Copy)]
@@ -18,6 +17,7 @@ struct Tree {
     k: u32,
     item: u32,
     price: i64,
+    last_price: i64,
     last_leaves: u32,
 }
 
@@ -26,6 +26,7 @@ const SHOWN: Tree = Tree {
     k: 1,
     item: 1,
     price: -2,
+    last_price: 3,
     last_leaves: 1,
 };
 
@@ -46,9 +47,12 @@ fn first_leaf(alloc: Global, tree: &Tree) -> Result<TreeLine, Memory> {
     }))
 }
 
-/// The price 3 of a bin, which shows that two cost 6.
-fn last_leaf(alloc: Global) -> Result<TreeLine, Memory> {
-    let arc = ArcPrice { arc: 1, price: 3 };
+/// A price of a bin: 3 shows that two cost 6.
+fn last_leaf(alloc: Global, tree: &Tree) -> Result<TreeLine, Memory> {
+    let arc = ArcPrice {
+        arc: 1,
+        price: tree.last_price,
+    };
     Ok(TreeLine::Leaf(Prices {
         scale: 1,
         items: Listed::empty(alloc),
@@ -62,7 +66,7 @@ fn leaves(alloc: Global, first: TreeLine, tree: &Tree) -> Result<Listed<TreeLine
     lines.push(first)?;
     lines.push(first_leaf(alloc, tree)?)?;
     for _ in 0..tree.last_leaves {
-        lines.push(last_leaf(alloc)?)?;
+        lines.push(last_leaf(alloc, tree)?)?;
     }
     Ok(lines)
 }
@@ -172,19 +176,5 @@ fn splits_that_are_needed(rt: HostRuntime) -> Result<(), Fail> {
             answer
         );
     }
-    Ok(())
-}
-
-#[test]
-fn a_refusal_stays(rt: HostRuntime) -> Result<(), Fail> {
-    let alloc = rt.alloc();
-    let instance = three_of_one(alloc)?.ok_or("no instance")?;
-    let graph = graph_of_two(alloc)?;
-    examples_come_out();
-    let mut checker = Checker::new(alloc, &instance, &graph)?;
-    needs_send(&checker);
-    let refused = Err(CheckFault::Text { line: 1 });
-    assert_eq!(rt; checker.step(&CertLine::Head { version: 4 }), refused);
-    assert_eq!(rt; checker.finish(), Err(CheckFault::Text { line: 1 }));
     Ok(())
 }

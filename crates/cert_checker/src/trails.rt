@@ -45,7 +45,7 @@ impl Model for Walk {
 }
 
 impl Walk {
-    ghost use Rattle.std.specs.Prelude.{◌≡◌, [], ◌∷◌, ◌↔◌, ◌<◌, OnErr, OnOk, IsTrue, length};
+    ghost use Rattle.std.specs.Prelude.{◌≡◌, [], ◌∷◌, ◌↔◌, ◌<◌, IfOk, OnErr, OnOk, IsTrue, length};
     ghost use Rattle.flow_graph.specs.Chords.{IsGenuine};
     ghost use Rattle.cert_text.specs.declared.lines.TreeLine.{TreeLine};
     ghost use Rattle.cert_laws.specs.Rules.{first_box, opened_by, SplitsBox};
@@ -60,6 +60,17 @@ impl Walk {
             trail: Vec::new(alloc),
             is_open: true,
         }
+    }
+
+    /// The same walk once more.
+    pub(crate) fn copied(&self) -> Result<Walk, Memory>
+        ensures { IfOk result (λ walk. walk ≡ self.now) }
+    {
+        Ok(Walk {
+            first: self.first.clone()?,
+            trail: self.trail.clone()?,
+            is_open: self.is_open,
+        })
     }
 
     /// Whether a box is open.

@@ -9,6 +9,8 @@ mod passes;
 mod products;
 mod scratch;
 mod tables;
+#[cfg(test)]
+mod tests;
 
 pub use bounds::{is_enough, worth};
 pub use gains::{best_path, first_excess, gain};

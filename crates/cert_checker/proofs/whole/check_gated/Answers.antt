@@ -11,7 +11,7 @@ use Rattle.cert_laws.specs.Rules.{IsFirstRefused, at_start}
 use Rattle.cert_checker.specs.Faults.{refusal_of}
 use Rattle.cert_checker.specs.inner.Taken.{HasTaken, head_lines}
 use Rattle.cert_checker.proofs.TakenLines.{nothing_taken, as_fault, shown_ok}
-use Rattle.cert_checker.proofs.whole.check.Goals as goal
+use Rattle.cert_checker.proofs.whole.check_gated.Goals as goal
 
 pub returns-in-Err-clause-refused : goal.returns-in-Err-clause-refused
 returns-in-Err-clause-refused g c =
@@ -22,7 +22,7 @@ pub returns-in-Err-go_through-clause-refused : goal.returns-in-Err-go_through-cl
 returns-in-Err-go_through-clause-refused g c =
     let start : HasTaken c.args.instance.now c.args.graph.now [] c.in_ok-checker.checker = nothing_taken c.args.instance.now c.args.graph.now c.in_ok-checker.checker c.in_ok-checker.ensures in
     let heads : HasTaken c.args.instance.now c.args.graph.now (head_lines c.args.certificate.now) c.begin.new.checker = c.in-Ok.ensures.ok c.args.instance.now c.args.graph.now start in
-    let slice : c.as_slice.result.now ≡ c.args.certificate.now.lines = c.as_slice.ensures in
+    let slice : c.as_slice-places.result.now ≡ c.args.certificate.now.lines = c.as_slice-places.ensures in
     as_fault c.args.instance.now c.args.graph.now (lines_of c.args.certificate.now) (refusal_of c.in-Err-go_through.fault)
     (subst (λ (xs : List TreeLine). IfSome (refusal_of c.in-Err-go_through.fault) (λ r. IsFirstRefused c.args.instance.now c.args.graph.now (at_start c.args.instance.now c.args.graph.now) (head_lines c.args.certificate.now ++ (map (λ l. cert.Tree l) xs ++ cert.End ∷ [])) r.0 r.1)) slice
     (c.in-Err-go_through.ensures.err c.args.instance.now c.args.graph.now (head_lines c.args.certificate.now) heads (cert.End ∷ [])))
@@ -31,11 +31,11 @@ pub end-requires : goal.end-requires
 end-requires g c =
     let start : HasTaken c.args.instance.now c.args.graph.now [] c.in_ok-checker.checker = nothing_taken c.args.instance.now c.args.graph.now c.in_ok-checker.checker c.in_ok-checker.ensures in
     let heads : HasTaken c.args.instance.now c.args.graph.now (head_lines c.args.certificate.now) c.begin.new.checker = c.in-Ok.ensures.ok c.args.instance.now c.args.graph.now start in
-    let slice : c.as_slice.result.now ≡ c.args.certificate.now.lines = c.as_slice.ensures in
+    let slice : c.as_slice-places.result.now ≡ c.args.certificate.now.lines = c.as_slice-places.ensures in
     let tree : HasTaken c.args.instance.now c.args.graph.now (head_lines c.args.certificate.now ++ map (λ l. cert.Tree l) c.args.certificate.now.lines) c.go_through.new.checker =
     subst (λ (xs : List TreeLine). HasTaken c.args.instance.now c.args.graph.now (head_lines c.args.certificate.now ++ map (λ l. cert.Tree l) xs) c.go_through.new.checker) slice (c.in-Ok-go_through.ensures.ok c.args.instance.now c.args.graph.now (head_lines c.args.certificate.now) heads) in
-    let small : length c.as_slice.result.now < 2 ^ 63 = search rules in
-    let same : length c.as_slice.result.now ≡ length c.args.certificate.now.lines = (λ k. length (slice k)) in
+    let small : length c.as_slice-places.result.now < 2 ^ 63 = search rules in
+    let same : length c.as_slice-places.result.now ≡ length c.args.certificate.now.lines = (λ k. length (slice k)) in
     let count = tree.count in
     let whole = length-append (head_lines c.args.certificate.now) (map (λ l. cert.Tree l) c.args.certificate.now.lines) in
     let mapped : length (map (λ l. cert.Tree l) c.args.certificate.now.lines) ≡ length c.args.certificate.now.lines = simp length-map in
@@ -45,7 +45,7 @@ pub returns-clause-certified : goal.returns-clause-certified
 returns-clause-certified g c =
     let start : HasTaken c.args.instance.now c.args.graph.now [] c.in_ok-checker.checker = nothing_taken c.args.instance.now c.args.graph.now c.in_ok-checker.checker c.in_ok-checker.ensures in
     let heads : HasTaken c.args.instance.now c.args.graph.now (head_lines c.args.certificate.now) c.begin.new.checker = c.in-Ok.ensures.ok c.args.instance.now c.args.graph.now start in
-    let slice : c.as_slice.result.now ≡ c.args.certificate.now.lines = c.as_slice.ensures in
+    let slice : c.as_slice-places.result.now ≡ c.args.certificate.now.lines = c.as_slice-places.ensures in
     let tree : HasTaken c.args.instance.now c.args.graph.now (head_lines c.args.certificate.now ++ map (λ l. cert.Tree l) c.args.certificate.now.lines) c.go_through.new.checker =
     subst (λ (xs : List TreeLine). HasTaken c.args.instance.now c.args.graph.now (head_lines c.args.certificate.now ++ map (λ l. cert.Tree l) xs) c.go_through.new.checker) slice (c.in-Ok-go_through.ensures.ok c.args.instance.now c.args.graph.now (head_lines c.args.certificate.now) heads) in
     c.end.ensures.ok c.args.instance.now c.args.graph.now (head_lines c.args.certificate.now ++ map (λ l. cert.Tree l) c.args.certificate.now.lines) tree
@@ -54,7 +54,7 @@ pub returns-clause-refused : goal.returns-clause-refused
 returns-clause-refused g c =
     let start : HasTaken c.args.instance.now c.args.graph.now [] c.in_ok-checker.checker = nothing_taken c.args.instance.now c.args.graph.now c.in_ok-checker.checker c.in_ok-checker.ensures in
     let heads : HasTaken c.args.instance.now c.args.graph.now (head_lines c.args.certificate.now) c.begin.new.checker = c.in-Ok.ensures.ok c.args.instance.now c.args.graph.now start in
-    let slice : c.as_slice.result.now ≡ c.args.certificate.now.lines = c.as_slice.ensures in
+    let slice : c.as_slice-places.result.now ≡ c.args.certificate.now.lines = c.as_slice-places.ensures in
     let tree : HasTaken c.args.instance.now c.args.graph.now (head_lines c.args.certificate.now ++ map (λ l. cert.Tree l) c.args.certificate.now.lines) c.go_through.new.checker =
     subst (λ (xs : List TreeLine). HasTaken c.args.instance.now c.args.graph.now (head_lines c.args.certificate.now ++ map (λ l. cert.Tree l) xs) c.go_through.new.checker) slice (c.in-Ok-go_through.ensures.ok c.args.instance.now c.args.graph.now (head_lines c.args.certificate.now) heads) in
     c.end.ensures.err c.args.instance.now c.args.graph.now (head_lines c.args.certificate.now ++ map (λ l. cert.Tree l) c.args.certificate.now.lines) tree
@@ -63,7 +63,7 @@ pub returns-clause-shown : goal.returns-clause-shown
 returns-clause-shown g c = λ faithful.
     let start : HasTaken c.args.instance.now c.args.graph.now [] c.in_ok-checker.checker = nothing_taken c.args.instance.now c.args.graph.now c.in_ok-checker.checker c.in_ok-checker.ensures in
     let heads : HasTaken c.args.instance.now c.args.graph.now (head_lines c.args.certificate.now) c.begin.new.checker = c.in-Ok.ensures.ok c.args.instance.now c.args.graph.now start in
-    let slice : c.as_slice.result.now ≡ c.args.certificate.now.lines = c.as_slice.ensures in
+    let slice : c.as_slice-places.result.now ≡ c.args.certificate.now.lines = c.as_slice-places.ensures in
     let tree : HasTaken c.args.instance.now c.args.graph.now (head_lines c.args.certificate.now ++ map (λ l. cert.Tree l) c.args.certificate.now.lines) c.go_through.new.checker =
     subst (λ (xs : List TreeLine). HasTaken c.args.instance.now c.args.graph.now (head_lines c.args.certificate.now ++ map (λ l. cert.Tree l) xs) c.go_through.new.checker) slice (c.in-Ok-go_through.ensures.ok c.args.instance.now c.args.graph.now (head_lines c.args.certificate.now) heads) in
     let known : IsInstance c.args.instance.now = search rules in
