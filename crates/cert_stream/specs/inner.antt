@@ -1,0 +1,4 @@
+-- What only bodies and proofs need.
+pub mod Batches
+pub mod Stages
+pub mod Within
