@@ -21,6 +21,3 @@ pub use laws::{
 pub use level_sizes::level_size;
 pub use pieces::pieces_of;
 pub use results::{CompileFault, Compiled, Sizes, TypeSize};
-
-#[cfg(test)]
-mod tests;

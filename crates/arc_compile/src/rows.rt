@@ -1,6 +1,6 @@
 //! The types of an instance compiled side by side, each by itself.
 
-ghost use Rattle.std.specs.Prelude.{◌≡◌, ℕ, ◌+◌, ◌≤◌, ◌<◌, MatchResult, length};
+ghost use Rattle.std.specs.Prelude.{◌≡◌, ℕ, ◌+◌, ◌-◌, ◌≤◌, ◌<◌, IfOk, MatchResult, length};
 ghost use Rattle.std.specs.Thread.{IsSync};
 ghost use Rattle.packing_laws.specs.Instances.{InstanceValue, IsAmong};
 ghost use Rattle.arc_num.specs.declared.TheConstants.{MAX_ARCS};
@@ -26,7 +26,7 @@ pub struct TypeRow {
 
 /// The fault of type t.
 fn fault_at(t: u32, fault: GraphFault) -> CompileFault
-    ensures { (I : InstanceValue) → (fault ≡ GraphFault.TooManyArcs → (arcs : ℕ) × HasMainArcs (places_of I) I t arcs × (MAX_ARCS < arcs)) → IsFaultAt I t result }
+    ensures { (I : InstanceValue) (room : ℕ) → room ≤ MAX_ARCS → (fault ≡ GraphFault.TooManyArcs → (arcs : ℕ) × HasMainArcs (places_of I) I t arcs × (room < arcs)) → IsFaultAt I t (MAX_ARCS - room) result }
 {
     match fault {
         GraphFault::TooManyArcs => CompileFault::TooManyArcs { t },
@@ -34,26 +34,29 @@ fn fault_at(t: u32, fault: GraphFault) -> CompileFault
     }
 }
 
-/// Type t compiled in N places, once the gate has let it through.
+/// Type t compiled in N places, once the gate has let it through, with at most so many arcs of its main graph.
 fn one_type<G: Gate, const N: usize>(
     alloc: Global,
     instance: &Instance,
     gate: &G,
     t: u32,
+    room: u32,
 ) -> Result<CompiledType, CompileFault>
     requires small { N ≤ 32 }
     requires in_range { IsAmong t (length instance.now.types) }
     requires wide { places_of instance.now ≤ N }
-    ensures { MatchResult result (IsDone instance.now t) (IsFaultAt instance.now t) }
+    requires room { room ≤ MAX_ARCS }
+    ensures done { MatchResult result (IsDone instance.now t) (IsFaultAt instance.now t (MAX_ARCS - room)) }
+    ensures roomy { IfOk result (λ x. x.size.main_arcs ≤ room) }
 {
     gate.pass(t);
-    match compile_type::<N>(alloc, instance, t, MAX_ARCS) {
+    match compile_type::<N>(alloc, instance, t, room) {
         Ok(compiled) => Ok(compiled),
         Err(fault) => Err(fault_at(t, fault)),
     }
 }
 
-/// So many types compiled in N places, one after the other.
+/// So many types compiled in N places, one after the other. Arcs of those before leave less room to the next.
 fn one_by_one<G: Gate, const N: usize>(
     alloc: Global,
     instance: &Instance,
@@ -68,9 +71,10 @@ fn one_by_one<G: Gate, const N: usize>(
     ensures { IsRow instance.now first count result }
 {
     let mut types = Vec::new(alloc);
+    let mut room = MAX_ARCS;
     let _types = instance.type_count();
     for t in first..first + count {
-        let compiled = match one_type::<G, N>(alloc, instance, gate, t) {
+        let compiled = match one_type::<G, N>(alloc, instance, gate, t, room) {
             Ok(compiled) => compiled,
             Err(fault) => {
                 return TypeRow {
@@ -79,6 +83,7 @@ fn one_by_one<G: Gate, const N: usize>(
                 };
             }
         };
+        room -= compiled.size.main_arcs;
         match types.push(compiled) {
             Ok(()) => {}
             Err(_) => {

@@ -17,10 +17,11 @@ use Rattle.lift_build.specs.declared.found.Ahead.TheVariants.{Known, Lifted}
 use Rattle.lift_build.specs.declared.found.Search.{Search}
 use Rattle.lift_build.specs.inner.Numbers.{IsNumber, IsAdded}
 use Rattle.lift_build.specs.inner.Rooms.{room_left, IsUnder, IsLift}
-use Rattle.lift_build.specs.inner.Searches.{IsDone, IsSound, IsSearch, LiesAhead, HasNumber, IsAhead, IsTake, state_of}
+use Rattle.lift_build.specs.inner.Searches.{IsDone, IsSound, IsSearch, PassesInto, MayPass, LiesFrom, LiesAhead, HasNumber, IsAhead, IsTake, state_of}
 use Rattle.lift_build.proofs.Lifts.{room-target}
 use Rattle.lift_build.proofs.Lifting.{piece-weight}
 use Rattle.lift_build.proofs.Covering.{past-shown, done-under}
+use Rattle.lift_build.proofs.Passing.{done-passes, may-next}
 
 module _ {N : ℕ} (pieces : List (Piece N)) (cap : List ℕ) where
   pub lift-low : (s : State N) → IsLift pieces cap s → 1 ≤ s.piece
@@ -39,22 +40,45 @@ module _ {N : ℕ} (pieces : List (Piece N)) (cap : List ℕ) where
       let parts = piece-weight pieces cap s.piece piece low high at in
       never (omega (arith, step.2, parts.1)) (subst (λ (l : List ℕ). AtMost (plus s.used l) cap) parts.0 step.3)
 
+  -- while the next state that has a take is looked for
+  pub pass-on : (s here : LiftedState N) (index : ℕ) (piece : Piece N) → MayPass pieces cap s index here → index < length pieces → piece ≡ get_or pieces index piece → IsTake piece cap here None → MayPass pieces cap s (index + 1) (record { piece = index + 2; copies = 0; used = s.used })
+  pass-on s here index piece may within at none =
+      ⊎_elim
+      (λ there.
+      let same : index ≡ here.piece - 1 = omega (arith, there.1) in
+      may-next pieces cap s here (record { piece = index + 2; copies = 0; used = s.used }) index may within
+      (take-none here piece (omega (arith, there.1)) there.2 (subst (λ (k : ℕ). piece ≡ get_or pieces k piece) same at) none) refl)
+      (λ past. absurd (omega (arith, past.1)))
+      may
+
   module _ (sized : length cap ≡ N) (room : ℕ) (search : Search N) (is : IsSearch pieces cap room search) where
     pub number-done : (s : LiftedState N) (number : ℕ) → HasNumber search s number → IsDone pieces cap search.labels search.arcs (state_of s) number
     number-done s number has = subst (λ (n : ℕ). IsDone pieces cap search.labels search.arcs (state_of s) n) has.2 (is.done has.0 s has.1)
 
+    -- the target is done, and so is what passes into it
+    pub from-target : (s : State N) → PassesInto pieces cap s (target pieces cap) → 1 ≤ length pieces → LiesFrom pieces cap search s (Known 1)
+    from-target s passes some =
+        let end = target pieces cap in
+        let past : length pieces < end.piece = omega (arith, target-piece pieces cap some) in
+        let label : IsNumber search.labels 1 (room_left pieces cap end) = subst (λ (l : List ℕ). IsNumber search.labels 1 l) (sym (room-target pieces cap)) is.sound.target in
+        done-passes pieces cap sized search.labels search.arcs s end 1 passes (past-shown pieces cap sized search.labels search.arcs end 1 past label)
+
     -- behind the last piece lies the target
     pub skip-last : (s : State N) → IsLift pieces cap s → s.piece ≡ length pieces → LiesAhead pieces cap search s Loss (Known 1)
-    skip-last s lift last =
-        let low = lift-low s lift in
-        let end = target pieces cap in
-        let past : length pieces < end.piece = omega (arith, target-piece pieces cap (omega arith)) in
-        let label : IsNumber search.labels 1 (room_left pieces cap end) = subst (λ (l : List ℕ). IsNumber search.labels 1 l) (sym (room-target pieces cap)) is.sound.target in
-        (end, inr (last, refl), past-shown pieces cap sized search.labels search.arcs end 1 past label)
+    skip-last s lift last = (target pieces cap, inr (last, refl), from-target (target pieces cap) (0, refl) (omega (arith, lift-low s lift)))
 
-    pub ahead-lies : (s t : State N) (m : Mark) (lifted : LiftedState N) (ahead : Ahead N) → Step pieces cap s m t → IsUnder pieces cap t (state_of lifted) → lifted.piece ≤ length pieces → IsAhead search lifted ahead → LiesAhead pieces cap search s m ahead
-    ahead-lies s t m lifted (Known number) step under within has = (t, step, done-under pieces cap sized search.labels search.arcs t (state_of lifted) number under (number-done lifted number has))
-    ahead-lies s t m lifted (Lifted next) step under within same = (t, step, subst (λ (x : LiftedState N). IsUnder pieces cap t (state_of x)) (sym same) under, subst (λ (x : LiftedState N). x.piece ≤ length pieces) (sym same) within)
+    pub from-under : (s t : State N) (lifted : LiftedState N) (ahead : Ahead N) → PassesInto pieces cap s t → IsUnder pieces cap t (state_of lifted) → lifted.piece ≤ length pieces → IsAhead search lifted ahead → LiesFrom pieces cap search s ahead
+    from-under s t lifted (Known number) passes under within has =
+        done-passes pieces cap sized search.labels search.arcs s t number passes
+        (done-under pieces cap sized search.labels search.arcs t (state_of lifted) number under (number-done lifted number has))
+    from-under s t lifted (Lifted next) passes under within same = (
+      (t, passes, subst (λ (x : LiftedState N). IsUnder pieces cap t (state_of x)) (sym same) under),
+      subst (λ (x : LiftedState N). x.piece ≤ length pieces) (sym same) within,
+    )
+
+    pub ahead-lies : (s t : State N) (m : Mark) (ahead : Ahead N) → Step pieces cap s m t → LiesFrom pieces cap search t ahead → LiesAhead pieces cap search s m ahead
+    ahead-lies s t m (Known number) step from = (t, step, from)
+    ahead-lies s t m (Lifted next) step from = (t, step, from.0, from.1)
 
   -- a search that has found the target's label alone
   pub start-sound : (old labels : List (List ℕ)) (n : ℕ) → old ≡ [] → IsAdded old labels cap n → IsSound pieces cap labels []

@@ -1,6 +1,8 @@
 pub mod Takings
+pub mod Copies
 pub mod Lifts
 pub mod Covering
+pub mod Passing
 pub mod LevelRooms
 pub mod FoundImages
 pub mod Numberings

@@ -6,11 +6,11 @@ use Rattle.weight_vec.specs.Weight.{AtMost}
 use Rattle.label_graph.specs.declared.parts.Piece.{Piece}
 use Rattle.label_graph.specs.Graph.{piece_weight}
 use Rattle.level_graph.specs.Levels.{piece_copies}
-use Rattle.lift_build.specs.inner.Rooms.{left_before, room_left, IsUnder}
+use Rattle.lift_build.specs.inner.Rooms.{left_before, room_left, IsFull, HasCopiesFor, IsUnder}
 use Rattle.level_graph.specs.declared.states.State.{State}
 use Rattle.lift_build.specs.inner.Tables.{IsTable, HasMember, MayBeNext, AreZeros, TellsSums, IsRow, AreRows, IsFirstRow, IsNextRow, IsLiftAt, IsLiftBy}
 use Rattle.lift_build.proofs.Takings.{taking-sums}
-use Rattle.lift_build.proofs.Lifts.{before-is_room}
+use Rattle.lift_build.proofs.Lifts.{before-is_room, room-within, under-copies, under-both}
 
 pub parts-more : (P : ℕ → ℕ → Type 0) (parts : List ℕ) (i v : ℕ) → i < length parts → ((d : ℕ) → d < i → P d (get_or parts d 0)) → P i v → (d : ℕ) → d < i + 1 → P d (get_or (set parts i v) d 0)
 parts-more P parts i v within old here d lt =
@@ -112,7 +112,18 @@ pub lifted-under : {N : ℕ} (pieces : List (Piece N)) (cap : List ℕ) → leng
 unfolding room_left
 lifted-under pieces cap sized s row lifted fits used_sized is by =
     let high = lift-high pieces cap sized (length pieces + 1 - s.piece) s.copies row s.used lifted fits used_sized is by in
-    record { piece = refl; copies = refl; above = high.0; below = high.1 }
+    record { piece = refl; copies = inl refl; above = high.0; below = high.1 }
+
+pub lifted-fits : {N : ℕ} (pieces : List (Piece N)) (cap : List ℕ) → length cap ≡ N → (s : State N) (row : List (List ℕ)) (lifted : List ℕ) → AtMost s.used cap → length s.used ≡ N → IsRow pieces cap (length pieces + 1 - s.piece) row → IsLiftBy N row cap s.used lifted → AtMost lifted cap
+lifted-fits pieces cap sized s row lifted fits used_sized is by d = omega (arith, (lifted-under pieces cap sized s row lifted fits used_sized is by).below d, room-within pieces cap sized s d)
+
+-- and so does the state that has more copies taken besides, where those that are left are enough
+pub lifted-more : {N : ℕ} (pieces : List (Piece N)) (cap : List ℕ) → length cap ≡ N → (s : State N) (row : List (List ℕ)) (lifted : List ℕ) → AtMost s.used cap → length s.used ≡ N → IsRow pieces cap (length pieces + 1 - s.piece) row → IsLiftBy N row cap s.used lifted → (copies : ℕ) → HasCopiesFor pieces cap s.copies (record { piece = s.piece; copies = copies; used = lifted }) → IsUnder pieces cap s (record { piece = s.piece; copies = copies; used = lifted })
+lifted-more {N} pieces cap sized s row lifted fits used_sized is by copies has =
+    let mid : State N = record { piece = s.piece; copies = s.copies; used = lifted } in
+    let last : State N = record { piece = s.piece; copies = copies; used = lifted } in
+    under-both pieces cap sized s mid last (lifted-under pieces cap sized s row lifted fits used_sized is by)
+    (under-copies pieces cap sized mid last (lifted-fits pieces cap sized s row lifted fits used_sized is by) refl has)
 
 -- rows of tables, from that of no pieces on
 module _ {N : ℕ} (pieces : List (Piece N)) (cap : List ℕ) where
@@ -128,6 +139,19 @@ module _ {N : ℕ} (pieces : List (Piece N)) (cap : List ℕ) where
   piece-weight j piece low high at =
       let lt : j - 1 < length pieces = omega arith in
       (get_or-map (λ (q : Piece N). q.weight) pieces (j - 1) piece [] lt ∙ ap (λ (q : Piece N). q.weight) (sym at), get_or-map (λ (q : Piece N). q.copies) pieces (j - 1) piece 0 lt ∙ ap (λ (q : Piece N). q.copies) (sym at))
+
+  -- the copies of a piece, told by the piece
+  pub piece-copies : (j : ℕ) (piece : Piece N) → 1 ≤ j → j ≤ length pieces → piece ≡ get_or pieces (j - 1) piece → (copies more : ℕ) (used : List ℕ) → copies ≤ more → (more ≡ copies) ⊎ IsFull cap piece.weight (piece.copies - more) used → HasCopiesFor pieces cap copies (record { piece = j; copies = more; used = used })
+  piece-copies j piece low high at copies more used le told =
+      let parts = piece-weight j piece low high at in
+      ⊎_elim
+      (λ same. inl (sym same))
+      (λ full. inr (
+        le,
+        subst (λ (w : List ℕ). IsFull cap w (piece_copies pieces j - more) used) (sym parts.0)
+            (subst (λ (b : ℕ). IsFull cap piece.weight (b - more) used) (sym parts.1) full),
+      ))
+      told
 
   module _ (sized : length cap ≡ N) (j n : ℕ) (rows : List (List (List ℕ))) (low : 1 ≤ j) (high : j ≤ length pieces) (here : n ≡ length pieces - j + 1) (are : AreRows pieces cap n rows) (behind : List (List ℕ)) (at : behind ≡ get_or rows (n - 1) behind) where
     pub behind-row : IsRow pieces cap (n - 1) behind

@@ -11,7 +11,8 @@ use Rattle.level_graph.specs.declared.states.State.{State}
 use Rattle.level_graph.specs.Levels.{Step, target, piece_copies}
 use Rattle.level_graph.proofs.Arcs.{step-one}
 use Rattle.level_graph.proofs.Reached.{next_reached}
-use Rattle.lift_build.specs.inner.Rooms.{left_taking, left_before, room_left, IsUnder, IsLift}
+use Rattle.lift_build.specs.inner.Rooms.{left_taking, left_before, room_left, HasEnoughCopies, HasCopiesFor, IsUnder, IsLift}
+use Rattle.lift_build.proofs.Copies.{taking-enough, copies-both, copies-left, copies-next, copies-fewer}
 use Rattle.lift_build.proofs.Takings.{IsRoom, take-fits, take-heavy, taking-is_room, below-skip, below-take}
 
 module _ {N : ℕ} (pieces : List (Piece N)) (cap : List ℕ) where
@@ -120,27 +121,52 @@ module _ {N : ℕ} (pieces : List (Piece N)) (cap : List ℕ) where
         let weight = ap (λ (q : ℕ). get_or (piece_weight pieces q) d 0) step.0 in
         omega (arith, get_or-plus (room_left pieces cap s) (piece_weight pieces p) d, get_or-plus (left_taking cap w behind (suc n) s.used) w d)
 
+    -- copies for which there is no room are nothing to what is left
+    room-enough : (s : State N) (copies : ℕ) → copies ≤ s.copies → HasEnoughCopies pieces cap s → left_before pieces cap (length pieces + 1 - s.piece) copies s.used ≡ room_left pieces cap s
+    unfolding left_before room_left
+    room-enough s copies le enough =
+        let before : State N = record { piece = s.piece; copies = copies; used = s.used } in
+        let m = length pieces - s.piece in
+        ⊎_elim
+        (λ past. let none : length pieces + 1 - s.piece ≡ 0 = omega arith in ap (λ (n : ℕ). left_before pieces cap n copies s.used) none ∙ sym (ap (λ (n : ℕ). left_before pieces cap n s.copies s.used) none))
+        (λ within.
+        room-open before within
+        ∙ taking-enough N cap (piece_weight pieces s.piece) (left_before pieces cap m 0) (before-is_room m 0) (piece_copies pieces s.piece - copies) (piece_copies pieces s.piece - s.copies) s.used (omega arith) enough
+        ∙ sym (room-open s within))
+        (cases_lt (length pieces) s.piece)
+
     pub under-room : (r s : State N) → IsUnder pieces cap r s → room_left pieces cap r ≡ room_left pieces cap s
     unfolding room_left
     under-room r s is =
-        let p = is.piece in
-        let c = is.copies in
         (before-is_room (length pieces + 1 - r.piece) r.copies).same r.used s.used is.above is.below
-        ∙ (λ i. left_before pieces cap (length pieces + 1 - p i) (c i) s.used)
+        ∙ ap (λ (p : ℕ). left_before pieces cap (length pieces + 1 - p) r.copies s.used) is.piece
+        ∙ ⊎_elim
+        (λ same. ap (λ (c : ℕ). left_before pieces cap (length pieces + 1 - s.piece) c s.used) same)
+        (λ enough. room-enough s r.copies enough.0 enough.1)
+        is.copies
 
     pub under-itself : (s : State N) → AtMost s.used cap → IsUnder pieces cap s s
-    under-itself s fits = record { piece = refl; copies = refl; above = λ d. omega arith; below = room-above s fits }
+    under-itself s fits = record { piece = refl; copies = inl refl; above = λ d. omega arith; below = room-above s fits }
+
+    -- the state with more copies taken, where those that are left are enough
+    pub under-copies : (s t : State N) → AtMost s.used cap → t ≡ record { piece = s.piece; copies = t.copies; used = s.used } → HasCopiesFor pieces cap s.copies t → IsUnder pieces cap s t
+    under-copies s t fits same copies = record {
+      piece = sym (ap (λ (z : State N). z.piece) same);
+      copies = copies;
+      above = λ d. omega (arith, ap (λ (z : State N). get_or z.used d 0) same);
+      below = λ d. omega (arith, ap (λ (z : State N). get_or z.used d 0) same, room-above s fits d);
+    }
 
     pub under-both : (r s t : State N) → IsUnder pieces cap r s → IsUnder pieces cap s t → IsUnder pieces cap r t
     under-both r s t one two = record {
       piece = one.piece ∙ two.piece;
-      copies = one.copies ∙ two.copies;
+      copies = copies-both pieces cap r.copies s t two.piece two.above one.copies two.copies;
       above = λ d. omega (arith, one.above d, two.above d);
       below = subst (λ (l : List ℕ). AtMost t.used l) (sym (under-room r s one)) two.below;
     }
 
     pub target-under : IsUnder pieces cap (target pieces cap) (target pieces cap)
-    target-under = record { piece = refl; copies = refl; above = λ d. omega arith; below = subst (λ (l : List ℕ). AtMost (target pieces cap).used l) (sym room-target) (by pieces) }
+    target-under = record { piece = refl; copies = inl refl; above = λ d. omega arith; below = subst (λ (l : List ℕ). AtMost (target pieces cap).used l) (sym room-target) (by pieces) }
       where
         by : (ps : List (Piece N)) → AtMost (target ps cap).used cap
         by [] d = omega (arith, get_or-zeros N d)
@@ -158,7 +184,7 @@ module _ {N : ℕ} (pieces : List (Piece N)) (cap : List ℕ) where
           inl (omega (arith, is.piece, w.0), refl),
           record {
             piece = ap (λ (z : State N). z.piece) w.1 ∙ ap (λ (p : ℕ). p + 1) is.piece;
-            copies = ap (λ (z : State N). z.copies) w.1;
+            copies = inl (ap (λ (z : State N). z.copies) w.1);
             above = λ d. omega (arith, is.above d, ap (λ (z : State N). get_or z.used d 0) w.1);
             below = rises;
           },
@@ -171,12 +197,14 @@ module _ {N : ℕ} (pieces : List (Piece N)) (cap : List ℕ) where
         let weight = ap (λ (q : ℕ). piece_weight pieces q) step.0 in
         let high : AtMost (plus s.used w) (room_left pieces cap u) = λ d. omega (arith, is.below d, step-rises r u (Carries p) step d, get_or-plus (room_left pieces cap r) (piece_weight pieces p) d, get_or-plus s.used w d, ap (λ (l : List ℕ). get_or l d 0) weight) in
         let high' : AtMost (plus s.used (piece_weight pieces s.piece)) (room_left pieces cap u) = subst (λ (l : List ℕ). AtMost (plus s.used l) (room_left pieces cap u)) (sym same) high in
-        let copies : s.copies < piece_copies pieces s.piece = omega (arith, is.copies, step.2, ap (λ (q : ℕ). piece_copies pieces q) is.piece) in (
+        let fits : AtMost (plus s.used (piece_weight pieces s.piece)) cap = λ d. omega (arith, high' d, room-within u d) in
+        let few : r.copies < piece_copies pieces s.piece = omega (arith, step.2, ap (λ (q : ℕ). piece_copies pieces q) is.piece) in
+        let copies : s.copies < piece_copies pieces s.piece = copies-left pieces cap r.copies s is.copies few fits in (
           record { piece = s.piece; copies = s.copies + 1; used = plus s.used (piece_weight pieces s.piece) },
-          (step.0 ∙ is.piece, omega (arith, is.piece, step.1), copies, (λ d. omega (arith, high' d, room-within u d)), refl),
+          (step.0 ∙ is.piece, omega (arith, is.piece, step.1), copies, fits, refl),
           record {
             piece = ap (λ (z : State N). z.piece) step.4 ∙ is.piece;
-            copies = ap (λ (z : State N). z.copies) step.4 ∙ ap (λ (c : ℕ). c + 1) is.copies;
+            copies = subst (λ (c : ℕ). HasCopiesFor pieces cap c (record { piece = s.piece; copies = s.copies + 1; used = plus s.used (piece_weight pieces s.piece) })) (sym (ap (λ (z : State N). z.copies) step.4)) (copies-next pieces cap r.copies s is.copies copies);
             above = λ d. omega (arith, is.above d, ap (λ (z : State N). get_or z.used d 0) step.4, get_or-plus r.used w d, get_or-plus s.used (piece_weight pieces s.piece) d, ap (λ (l : List ℕ). get_or l d 0) same);
             below = high';
           },
@@ -194,7 +222,7 @@ module _ {N : ℕ} (pieces : List (Piece N)) (cap : List ℕ) where
         back (Carries p) step =
             let same : piece_weight pieces s.piece ≡ piece_weight pieces r.piece = ap (λ (q : ℕ). piece_weight pieces q) (sym is.piece) in
             let fits : AtMost (plus r.used (piece_weight pieces r.piece)) cap = λ d. omega (arith, is.above d, step.3 d, get_or-plus s.used (piece_weight pieces s.piece) d, get_or-plus r.used (piece_weight pieces r.piece) d, ap (λ (l : List ℕ). get_or l d 0) same) in
-            (record { piece = r.piece; copies = r.copies + 1; used = plus r.used (piece_weight pieces r.piece) }, (step.0 ∙ sym is.piece, omega (arith, is.piece, step.1), omega (arith, is.copies, step.2, ap (λ (q : ℕ). piece_copies pieces q) is.piece), fits, refl))
+            (record { piece = r.piece; copies = r.copies + 1; used = plus r.used (piece_weight pieces r.piece) }, (step.0 ∙ sym is.piece, omega (arith, is.piece, step.1), omega (arith, copies-fewer pieces cap r.copies s is.copies, step.2, ap (λ (q : ℕ). piece_copies pieces q) is.piece), fits, refl))
 
     -- behind a step of a state that stands for one that is reached lies another such state
     pub lift-step : (s t next : State N) (m : Mark) → IsLift pieces cap s → Step pieces cap s m t → IsUnder pieces cap t next → IsLift pieces cap next

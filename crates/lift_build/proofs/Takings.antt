@@ -31,7 +31,7 @@ module _ (N : ℕ) (cap w : List ℕ) (behind : List ℕ → List ℕ) (is : IsR
   take-heavy zero x heavy = refl
   take-heavy (suc n) x heavy = ap (λ (b : Bool). if b then both n x else behind x) (⊎_elim (λ t. absurd (heavy (at_most-sound (plus x w) cap t))) (λ f. f) (cases_Bool (at_most (plus x w) cap)))
 
-  fits-or : (x : List ℕ) → AtMost (plus x w) cap ⊎ (AtMost (plus x w) cap → ⊥)
+  pub fits-or : (x : List ℕ) → AtMost (plus x w) cap ⊎ (AtMost (plus x w) cap → ⊥)
   fits-or x =
       ⊎_elim
       (λ t. inl (at_most-sound (plus x w) cap t))

@@ -17,7 +17,8 @@ use Rattle.lift_build.specs.declared.found.Search.{Search}
 use Rattle.lift_build.specs.inner.Numbers.{IsNumber}
 use Rattle.lift_build.specs.inner.Rooms.{room_left, IsUnder, IsLift}
 use Rattle.lift_build.specs.inner.Searches.{IsSound, IsSearch, IsWhole, IsWaiting, GrowsInto, LiesAhead, HasNumber, state_of}
-use Rattle.lift_build.proofs.Lifts.{room-target, lift-step}
+use Rattle.lift_build.proofs.Lifts.{room-target}
+use Rattle.lift_build.proofs.Passing.{lift-next, lift-under}
 use Rattle.lift_build.proofs.Covering.{past-shown, done-under, done-grows}
 use Rattle.lift_build.proofs.Aheads.{number-done}
 
@@ -68,7 +69,7 @@ module _ {N : ℕ} (pieces : List (Piece N)) (cap : List ℕ) where
     waits-grow old new stack grows all = All-weaker (IsWaiting pieces cap old) (IsWaiting pieces cap new) (waiting-grows old new grows) stack all
 
     pub lift-ahead : (found : Search N) (s : State N) (m : Mark) (next : LiftedState N) → IsLift pieces cap s → LiesAhead pieces cap found s m (Lifted next) → IsLift pieces cap (state_of next)
-    lift-ahead found s m next lift ahead = lift-step pieces cap sized s ahead.0 (state_of next) m lift ahead.1 ahead.2
+    lift-ahead found s m next lift ahead = lift-under pieces cap sized ahead.0 (state_of next) (lift-next pieces cap sized s ahead.0 m lift ahead.1) ahead.2
 
     -- the first state is finished
     pub whole-end : (room : ℕ) (found : Search N) (first : LiftedState N) (number : ℕ) → IsSearch pieces cap room found → IsUnder pieces cap (source N) (state_of first) → HasNumber found first number → IsWhole pieces cap found.labels found.arcs

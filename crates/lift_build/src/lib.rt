@@ -1,4 +1,4 @@
-//! Main graphs straight from lists of pieces, over states whose weights are lifted as far as their completions allow.
+//! Main graphs straight from lists of pieces, over states whose weights and copies are lifted as far as their completions allow.
 #![tactic(auto)]
 
 mod finish;

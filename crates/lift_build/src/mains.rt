@@ -20,7 +20,7 @@ use main_compress::main_graphs_are_graphs;
 use std::alloc::Global;
 use weight_vec::Weights;
 
-/// The main graph of the level graph of the pieces, made without that graph: states at a piece whose weights are lifted
+/// The main graph of the level graph of the pieces, made without that graph: states at a piece whose weights and copies are lifted
 /// alike share their ways on, and each is looked at once. The search ends as soon as it has found more arcs than there
 /// is room for. It is the same graph as the main compression of the level graph gives.
 pub fn build_main<const N: usize>(

@@ -117,87 +117,106 @@ fn has_main<const N: usize>(
 }
 
 #[test]
-fn rows_of_one_dimension(rt: HostRuntime) -> Result<(), Fail> {
-    has_main::<1>(
-        &rt,
-        rt.alloc(),
-        &[9],
-        &[(&[4], 1), (&[3], 3), (&[2], 1)],
-        (6, 11),
-    )?;
-    has_main::<1>(&rt, rt.alloc(), &[2], &[(&[1], 3)], (3, 4))?;
-    has_main::<1>(&rt, rt.alloc(), &[10], &[(&[6], 1), (&[5], 1)], (3, 4))?;
-    has_main::<1>(&rt, rt.alloc(), &[10], &[(&[6], 2)], (2, 2))?;
-    has_main::<1>(&rt, rt.alloc(), &[10], &[], (1, 0))
-}
-
-#[test]
-fn rows_of_two_dimensions(rt: HostRuntime) -> Result<(), Fail> {
-    has_main::<2>(
-        &rt,
-        rt.alloc(),
-        &[5, 5],
-        &[(&[3, 2], 2), (&[2, 3], 2)],
-        (3, 4),
-    )?;
-    has_main::<2>(
-        &rt,
-        rt.alloc(),
-        &[3, 3],
-        &[(&[3, 0], 2), (&[0, 3], 2)],
-        (3, 4),
-    )
+fn rows_have_their_main_graphs(rt: HostRuntime) -> Result<(), Fail> {
+    let one: [(&[u32], &[(&[u32], u32)], (usize, usize)); 6] = [
+        (&[9], &[(&[4], 1), (&[3], 3), (&[2], 1)], (6, 11)),
+        (&[2], &[(&[1], 3)], (3, 4)),
+        (&[10], &[(&[6], 1), (&[5], 1)], (3, 4)),
+        (&[10], &[(&[6], 2)], (2, 2)),
+        (&[7], &[(&[7], 1), (&[2], 9), (&[1], 1)], (5, 9)),
+        (&[10], &[], (1, 0)),
+    ];
+    for (cap, forms, wanted) in one {
+        has_main::<1>(&rt, rt.alloc(), cap, forms, wanted)?;
+    }
+    let two: [(&[u32], &[(&[u32], u32)], (usize, usize)); 2] = [
+        (&[5, 5], &[(&[3, 2], 2), (&[2, 3], 2)], (3, 4)),
+        (&[3, 3], &[(&[3, 0], 2), (&[0, 3], 2)], (3, 4)),
+    ];
+    for (cap, forms, wanted) in two {
+        has_main::<2>(&rt, rt.alloc(), cap, forms, wanted)?;
+    }
+    Ok(())
 }
 
 #[test]
 fn cutting_list_of_thirteen_widths(rt: HostRuntime) -> Result<(), Fail> {
-    has_main::<1>(
-        &rt,
-        rt.alloc(),
-        &[5600],
-        &[
-            (&[2200], 20),
-            (&[2150], 18),
-            (&[2140], 16),
-            (&[2100], 14),
-            (&[2050], 12),
-            (&[2000], 10),
-            (&[1930], 20),
-            (&[1880], 18),
-            (&[1820], 18),
-            (&[1710], 14),
-            (&[1560], 12),
-            (&[1520], 25),
-            (&[1380], 22),
-        ],
-        (25, 81),
-    )
+    let widths: [(u32, u32); 13] = [
+        (2200, 20),
+        (2150, 18),
+        (2140, 16),
+        (2100, 14),
+        (2050, 12),
+        (2000, 10),
+        (1930, 20),
+        (1880, 18),
+        (1820, 18),
+        (1710, 14),
+        (1560, 12),
+        (1520, 25),
+        (1380, 22),
+    ];
+    let mut pieces = Vec::new(rt.alloc());
+    let mut item: u32 = 0;
+    for (width, copies) in widths {
+        item = item.checked_add(1).ok_or("many widths")?;
+        pieces.push(Piece {
+            item,
+            form: 1,
+            weight: padded(&[width]),
+            copies,
+        })?;
+    }
+    let cap: Weights<1> = padded(&[5600]);
+    let counts = is_main(&rt, rt.alloc(), pieces.as_slice(), &cap)?;
+    assert_eq!(rt; counts, (25, 81));
+    Ok(())
 }
 
 // The next number of a row without a pattern.
 fn next_number(number: u32) -> u32 {
-    (number as u64 * 48_271 % 2_147_483_647) as u32
+    number.wrapping_mul(1_664_525).wrapping_add(1_013_904_223)
+}
+
+// A row of pieces without a pattern, and the number behind the last one that it took.
+fn some_pieces<const N: usize>(alloc: Global, from: u32) -> Result<(Vec<Piece<N>>, u32), Fail>
+    requires small { N ≤ 32 }
+{
+    let mut pieces = Vec::new(alloc);
+    let mut number = from;
+    for item in 1..5u32 {
+        let mut parts = [0; N];
+        for d in 0..N {
+            number = next_number(number);
+            parts[d] = number / 65_536 % 6 + u32::from(d == 0);
+        }
+        pieces.push(Piece {
+            item,
+            form: 1,
+            weight: padded(&parts),
+            copies: number / 4_096 % 3 + 1,
+        })?;
+    }
+    Ok((pieces, number))
+}
+
+// So many rows of pieces without a pattern have the main graphs of their level graphs.
+fn small_lists<const N: usize>(rt: &impl Abort, alloc: Global, count: u32) -> Result<(), Fail>
+    requires small { N ≤ 32 }
+{
+    let cap: Weights<N> = padded(&[12; N]);
+    let mut number: u32 = 17;
+    for _ in 0..count {
+        let (pieces, next) = some_pieces::<N>(alloc, number)?;
+        number = next;
+        is_main(rt, alloc, pieces.as_slice(), &cap)?;
+    }
+    Ok(())
 }
 
 #[test]
 fn small_lists_without_a_pattern(rt: HostRuntime) -> Result<(), Fail> {
-    let cap: Weights<2> = padded(&[12, 10]);
-    let mut number: u32 = 17;
-    for _ in 0..40 {
-        let mut pieces = Vec::new(rt.alloc());
-        for item in 1..5u32 {
-            let width = next_number(number);
-            let height = next_number(width);
-            number = next_number(height);
-            pieces.push(Piece {
-                item,
-                form: 1,
-                weight: padded(&[width % 7, height % 6 + 1]),
-                copies: number % 3 + 1,
-            })?;
-        }
-        let counts = is_main(&rt, rt.alloc(), pieces.as_slice(), &cap)?;
-        assert!(rt; counts.0 > 1);
-    }
-    Ok(())
+    small_lists::<1>(&rt, rt.alloc(), 67)?;
+    small_lists::<2>(&rt, rt.alloc(), 67)?;
+    small_lists::<3>(&rt, rt.alloc(), 67)
 }

@@ -1,5 +1,5 @@
 -- Types in a row, compiled each by itself, up to the first that could not be.
-use Rattle.std.specs.Prelude.{◌≡◌, ℕ, ◌+◌, ◌≤◌, ◌<◌, List, length, Option, Some, None, slice_get}
+use Rattle.std.specs.Prelude.{◌≡◌, ℕ, ◌+◌, ◌≤◌, ◌<◌, List, length, Option, Some, None, slice_get, sum_by}
 use Rattle.arc_num.specs.declared.TheConstants.{MAX_ARCS}
 use Rattle.packing_laws.specs.Instances.{InstanceValue}
 use Rattle.flow_graph.specs.Arcs.{TypeValue, IsFlowType}
@@ -22,25 +22,29 @@ pub record IsDone (I : InstanceValue) (t : ℕ) (x : CompiledType) : Type 0 wher
   pub roomy : x.size.main_arcs ≤ MAX_ARCS
   pub fewer : length x.arcs.items ≤ x.size.main_arcs
 
--- the main graph of type t alone has too many arcs
-pub record IsTooMuch (I : InstanceValue) (t : ℕ) : Type 0 where
+-- how many arcs the main graphs of these types have together
+abbrev pub main_arcs_of : List CompiledType → ℕ
+main_arcs_of types = sum_by (λ x. x.size.main_arcs) types
+
+-- the main graph of type t has too many arcs beside so many of other types
+pub record IsTooMuch (I : InstanceValue) (t others : ℕ) : Type 0 where
   pub arcs : ℕ
   pub has : HasMainArcs (places_of I) I t arcs
-  pub past : MAX_ARCS < arcs
+  pub past : MAX_ARCS < others + arcs
 
--- the fault of type t: its main graph has too many arcs, or memory was wanting
-abbrev pub IsFaultAt : InstanceValue → ℕ → CompileFault → Type 0
-IsFaultAt I t (TooManyArcs s) = (s ≡ t) × IsTooMuch I t
-IsFaultAt I t Memory = Unit {0}
+-- the fault of type t: its main graph has too many arcs beside so many others, or memory was wanting
+abbrev pub IsFaultAt : InstanceValue → ℕ → ℕ → CompileFault → Type 0
+IsFaultAt I t others (TooManyArcs s) = (s ≡ t) × IsTooMuch I t others
+IsFaultAt I t others Memory = Unit {0}
 
--- why no more than so many types of a row are done: these are all, or the next has a fault, or memory was wanting
-abbrev pub EndsAt : InstanceValue → ℕ → ℕ → ℕ → Option CompileFault → Type 0
-EndsAt I first count done None = done ≡ count
-EndsAt I first count done (Some (TooManyArcs s)) = (s ≡ first + done) × (done < count) × IsTooMuch I (first + done)
-EndsAt I first count done (Some Memory) = Unit {0}
+-- why no more types of a row are done: these are all, or the next has a fault, or memory was wanting
+abbrev pub EndsAt : InstanceValue → ℕ → ℕ → List CompiledType → Option CompileFault → Type 0
+EndsAt I first count types None = length types ≡ count
+EndsAt I first count types (Some (TooManyArcs s)) = (s ≡ first + length types) × (length types < count) × IsTooMuch I (first + length types) (main_arcs_of types)
+EndsAt I first count types (Some Memory) = Unit {0}
 
 -- the first of so many types, from this one on, compiled
 pub record IsRow (I : InstanceValue) (first count : ℕ) (row : TypeRow) : Type 0 where
   pub each : (k : ℕ) (x : CompiledType) → slice_get row.types.items k ≡ Some x → IsDone I (first + k) x
   pub within : length row.types.items ≤ count
-  pub end : EndsAt I first count (length row.types.items) row.fault
+  pub end : EndsAt I first count row.types.items row.fault

@@ -1,5 +1,5 @@
 -- What the ways on from a state leave of the capacity, and states that may stand for others.
-use Rattle.std.specs.Prelude.{◌≡◌, ℕ, ◌+◌, ◌-◌, ◌*◌, ◌≤◌, List, length, slice_index, if◌then◌else◌}
+use Rattle.std.specs.Prelude.{◌≡◌, ◌⊎◌, ℕ, ◌+◌, ◌-◌, ◌*◌, ◌≤◌, ◌<◌, List, length, slice_index, if◌then◌else◌}
 use Rattle.std.proofs.Common.{zero, suc}
 use Rattle.label_graph.specs.declared.parts.Piece.{Piece}
 use Rattle.label_graph.specs.Graph.{piece_weight}
@@ -23,10 +23,23 @@ left_before pieces cap (suc m) c x = left_taking cap (piece_weight pieces (lengt
 unfoldable pub room_left : {N : ℕ} → List (Piece N) → List ℕ → State N → List ℕ
 room_left pieces cap s = left_before pieces cap (length pieces + 1 - s.piece) s.copies s.used
 
--- the second state stands for the first: it uses at least as much, and no more than the ways on leave
+-- in some place there is no room for more than so many copies of weight w beside weight x
+abbrev pub IsFull : List ℕ → List ℕ → ℕ → List ℕ → Type 0
+IsFull cap w n x = (d : ℕ) × (slice_index cap d < slice_index x d + suc n * slice_index w d)
+
+-- there is no room for more copies of the state's piece than are left
+abbrev pub HasEnoughCopies : {N : ℕ} → List (Piece N) → List ℕ → State N → Type 0
+HasEnoughCopies pieces cap s = IsFull cap (piece_weight pieces s.piece) (piece_copies pieces s.piece - s.copies) s.used
+
+-- so many copies are taken at the state, or more, and those that are left are still as many as there is room for
+abbrev pub HasCopiesFor : {N : ℕ} → List (Piece N) → List ℕ → ℕ → State N → Type 0
+HasCopiesFor pieces cap copies s = (copies ≡ s.copies) ⊎ ((copies ≤ s.copies) × HasEnoughCopies pieces cap s)
+
+-- the second state stands for the first: it uses at least as much, and no more than the ways on leave; it may have more
+-- copies taken where those that are left are still enough
 pub record IsUnder {N : ℕ} (pieces : List (Piece N)) (cap : List ℕ) (r s : State N) : Type 0 where
   pub piece : r.piece ≡ s.piece
-  pub copies : r.copies ≡ s.copies
+  pub copies : HasCopiesFor pieces cap r.copies s
   pub above : AtMost r.used s.used
   pub below : AtMost s.used (room_left pieces cap r)
 

@@ -10,7 +10,7 @@ use Rattle.label_graph.specs.declared.parts.Piece.{Piece}
 use Rattle.label_graph.specs.declared.parts.Mark.{Mark}
 use Rattle.label_graph.specs.declared.parts.Mark.TheVariants.{Loss, Piece as Carries}
 use Rattle.level_graph.specs.declared.states.State.{State}
-use Rattle.level_graph.specs.Levels.{Step, IsReached, source}
+use Rattle.level_graph.specs.Levels.{Step, IsReached, source, target}
 use Rattle.lift_build.specs.declared.states.LiftedState.{LiftedState}
 use Rattle.lift_build.specs.declared.found.Ahead.{Ahead}
 use Rattle.lift_build.specs.declared.found.Ahead.TheVariants.{Known, Lifted}
@@ -113,10 +113,40 @@ abbrev pub IsGrownBy : Option GraphArc → List GraphArc → List GraphArc → T
 IsGrownBy None old new = new ≡ old
 IsGrownBy (Some x) old new = (n : ℕ) × IsAdded old new x n
 
--- what lies behind a step: a state that is done, or one that stands for it and is not
+-- the state has no take
+abbrev pub HasNoTake : {N : ℕ} → List (Piece N) → List ℕ → State N → Type 0
+HasNoTake {N} pieces cap s = (t : State N) → Step pieces cap s (Carries s.piece) t → ⊥
+
+-- so many skips lead from s to t, each from a state that has no take
+abbrev pub PassesIn : {N : ℕ} → List (Piece N) → List ℕ → ℕ → State N → State N → Type 0
+PassesIn pieces cap zero s t = s ≡ t
+PassesIn {N} pieces cap (suc n) s t = (u : State N) × HasNoTake pieces cap s × Step pieces cap s Loss u × PassesIn pieces cap n u t
+
+abbrev pub PassesInto : {N : ℕ} → List (Piece N) → List ℕ → State N → State N → Type 0
+PassesInto pieces cap s t = (n : ℕ) × PassesIn pieces cap n s t
+
+-- the state, or the first one behind it that has a take; none where the target is behind it
+abbrev pub IsNextTake : {N : ℕ} → List (Piece N) → List ℕ → LiftedState N → Option (LiftedState N) → Type 0
+IsNextTake pieces cap s None = PassesInto pieces cap (state_of s) (target pieces cap)
+IsNextTake pieces cap s (Some t) = PassesInto pieces cap (state_of s) (state_of t) × (1 ≤ t.piece) × (t.piece ≤ length pieces) × (t.used ≡ s.used)
+
+-- the same while it is looked for: the state at a piece is come to, or behind the last one the target
+abbrev pub MayPass : {N : ℕ} → List (Piece N) → List ℕ → LiftedState N → ℕ → LiftedState N → Type 0
+MayPass pieces cap s index here = (PassesInto pieces cap (state_of s) (state_of here) × (here.piece ≡ index + 1) × (here.piece ≤ length pieces) × (here.used ≡ s.used)) ⊎ (PassesInto pieces cap (state_of s) (target pieces cap) × (length pieces ≤ index))
+
+-- the second state stands for one that the first passes into
+abbrev pub PassesUnder : {N : ℕ} → List (Piece N) → List ℕ → State N → State N → Type 0
+PassesUnder {N} pieces cap s t = (u : State N) × PassesInto pieces cap s u × IsUnder pieces cap u t
+
+-- what lies from a state on: it is done, or another stands for what it passes into and is not
+abbrev pub LiesFrom : {N : ℕ} → List (Piece N) → List ℕ → Search N → State N → Ahead N → Type 0
+LiesFrom pieces cap search t (Known number) = IsDone pieces cap search.labels search.arcs t number
+LiesFrom pieces cap search t (Lifted next) = PassesUnder pieces cap t (state_of next) × (next.piece ≤ length pieces)
+
+-- what lies behind a step: a state that is done, or one that stands for what it passes into and is not
 abbrev pub LiesAhead : {N : ℕ} → List (Piece N) → List ℕ → Search N → State N → Mark → Ahead N → Type 0
 LiesAhead {N} pieces cap search s m (Known number) = (t : State N) × Step pieces cap s m t × IsDone pieces cap search.labels search.arcs t number
-LiesAhead {N} pieces cap search s m (Lifted next) = (t : State N) × Step pieces cap s m t × IsUnder pieces cap t (state_of next) × (next.piece ≤ length pieces)
+LiesAhead {N} pieces cap search s m (Lifted next) = (t : State N) × Step pieces cap s m t × PassesUnder pieces cap t (state_of next) × (next.piece ≤ length pieces)
 
 -- a state that waits stands for one that is reached, and what lies behind its skip is done where its number is given
 pub record IsWaiting {N : ℕ} (pieces : List (Piece N)) (cap : List ℕ) (search : Search N) (frame : Frame N) : Type 0 where
@@ -126,12 +156,12 @@ pub record IsWaiting {N : ℕ} (pieces : List (Piece N)) (cap : List ℕ) (searc
 
 -- what lies behind a take, if one more copy fits
 abbrev pub MayTake : {N : ℕ} → List (Piece N) → List ℕ → Search N → State N → Option (Ahead N) → Type 0
-MayTake {N} pieces cap search s None = (t : State N) → Step pieces cap s (Carries s.piece) t → ⊥
+MayTake pieces cap search s None = HasNoTake pieces cap s
 MayTake pieces cap search s (Some ahead) = LiesAhead pieces cap search s (Carries s.piece) ahead
 
 -- the same where all that lies behind it is done
 abbrev pub KnownTake : {N : ℕ} → List (Piece N) → List ℕ → Search N → State N → Option ℕ → Type 0
-KnownTake {N} pieces cap search s None = (t : State N) → Step pieces cap s (Carries s.piece) t → ⊥
+KnownTake pieces cap search s None = HasNoTake pieces cap s
 KnownTake pieces cap search s (Some number) = LiesAhead pieces cap search s (Carries s.piece) (Known number)
 
 -- the label before a skip and a take, by the numbers of the labels behind them

@@ -9,12 +9,12 @@ use Rattle.lift_build.proofs.steps.skip_of.Goals as goal
 pub returns-then-state-pieces : goal.returns-then-state-pieces
 returns-then-state-pieces g c = skip-last c.args.pieces.now c.args.cap.now c.known.ensures.places c.args.room c.args.found.now c.requires.search (state_of c.args.state.now) c.requires.lift c.if-state-pieces.true
 
-pub lift_of-requires : goal.lift_of-requires
-lift_of-requires g c =
+pub ahead_from-requires : goal.ahead_from-requires
+ahead_from-requires g c =
     let below : c.args.state.now.piece < length c.args.pieces.now = ⊎_elim (λ lt. lt) (λ ge. absurd (c.if-state-pieces.false (omega (arith, c.requires.within)))) (cases_lt c.args.state.now.piece (length c.args.pieces.now)) in
-    (search rules, (search rules, (search rules, (c.requires.small, (omega (arith, c.requires.pieces.few), (c.requires.rows, (omega arith, (omega arith, lift-fits c.args.pieces.now c.args.cap.now c.known.ensures.places (state_of c.args.state.now) c.requires.lift))))))))
+    (search rules, (search rules, (search rules, (search rules, (search rules, (c.requires.small, (c.requires.pieces, (c.requires.rows, (c.requires.search, (omega arith, (omega arith, lift-fits c.args.pieces.now c.args.cap.now c.known.ensures.places (state_of c.args.state.now) c.requires.lift)))))))))))
 
 pub returns : goal.returns
 returns g c =
     let below : c.args.state.now.piece < length c.args.pieces.now = ⊎_elim (λ lt. lt) (λ ge. absurd (c.if-state-pieces.false (omega (arith, c.requires.within)))) (cases_lt c.args.state.now.piece (length c.args.pieces.now)) in
-    ahead-lies c.args.pieces.now c.args.cap.now c.known.ensures.places c.args.room c.args.found.now c.requires.search (state_of c.args.state.now) (record { piece = c.args.state.now.piece + 1; copies = 0; used = c.args.state.now.used }) Loss c.lift_of.result c.ahead_of.result (inl (below, refl)) c.lift_of.ensures.under (omega (arith, c.lift_of.ensures.piece)) c.ahead_of.ensures
+    ahead-lies c.args.pieces.now c.args.cap.now c.known.ensures.places c.args.room c.args.found.now c.requires.search (state_of c.args.state.now) (record { piece = c.args.state.now.piece + 1; copies = 0; used = c.args.state.now.used }) Loss c.ahead_from.result (inl (below, refl)) c.ahead_from.ensures

@@ -1,10 +1,11 @@
 //! The pieces, the graphs and the sizes of worked instances.
-use super::*;
-use crate::type_graphs::main_graph;
+use arc_compile::{
+    TypeSize, compile, compile_gated, compiled_graphs_are_faithful, compiled_graphs_are_one,
+    extended_weights_tell_fits, final_graphs_are_exact, level_size, padding_keeps_graphs,
+    pieces_of, sizes_are_one, sizes_exist,
+};
 use arc_num::{Gate, Memory};
-use final_compress::compress_final;
 use flow_graph::ArcKind;
-use label_graph::{Graph, GraphFault};
 use packing_laws::{BinType, Instance, Item, ItemCap, Numbers, Vectors};
 use std::alloc::Global;
 use std::sync::atomic::{AtomicBool, Ordering};
@@ -111,62 +112,73 @@ fn counts_of<R: Threads + Sync>(
     ))
 }
 
+/// An instance, and what its graphs count.
+#[derive(Clone, Copy)]
+struct Row {
+    cap: &'static [u32],
+    items: &'static [(&'static [u32], u32)],
+    caps: &'static [(u32, u32)],
+    counts: Counts,
+}
+
+/// In one to 32 places, of which caps are the last.
+const ROWS: [Row; 6] = [
+    Row {
+        cap: &[5, 5],
+        items: &[(&[3, 2], 2), (&[2, 3], 2)],
+        caps: &[],
+        counts: ((7, 9), (3, 4), (3, 4), 5),
+    },
+    Row {
+        cap: &[10],
+        items: &[(&[2], 4)],
+        caps: &[(1, 2)],
+        counts: ((4, 5), (3, 4), (3, 4), 5),
+    },
+    Row {
+        cap: &[5, 5, 5],
+        items: &[(&[3, 2, 1], 2), (&[2, 3, 1], 2)],
+        caps: &[],
+        counts: ((7, 9), (3, 4), (3, 4), 5),
+    },
+    Row {
+        cap: &[7, 6, 5],
+        items: &[(&[3, 2, 1], 2), (&[2, 3, 2], 1), (&[1, 1, 4], 2)],
+        caps: &[(1, 1), (3, 2)],
+        counts: ((13, 17), (4, 6), (3, 5), 6),
+    },
+    Row {
+        cap: &[3; 9],
+        items: &[
+            (&[1, 0, 1, 0, 1, 0, 1, 0, 1], 2),
+            (&[0, 2, 0, 2, 0, 2, 0, 2, 0], 1),
+        ],
+        caps: &[(1, 1)],
+        counts: ((7, 9), (3, 4), (3, 4), 5),
+    },
+    Row {
+        cap: &[2; 31],
+        items: &[(&[1; 31], 2)],
+        caps: &[(1, 1)],
+        counts: ((3, 3), (2, 2), (2, 2), 3),
+    },
+];
+
 #[test]
-fn two_dimensions_and_none(rt: HostRuntime) -> Result<(), Fail> {
+fn up_to_32_places_have_their_counts(rt: HostRuntime) -> Result<(), Fail> {
     let alloc = rt.alloc();
-    let items: [(&[u32], u32); 2] = [(&[3, 2], 2), (&[2, 3], 2)];
-    let instance = plain(alloc, &[5, 5], &items)?.ok_or("no instance")?;
-    assert_eq!(rt;
-        counts_of(&rt, alloc, &instance)?,
-        ((7, 9), (3, 4), (3, 4), 5)
-    );
+    for row in ROWS {
+        let instance = capped(alloc, row.cap, row.items, row.caps)?.ok_or("no instance")?;
+        assert_eq!(rt; counts_of(&rt, alloc, &instance)?, row.counts);
+    }
+    Ok(())
+}
+
+#[test]
+fn nothing_to_pack_has_one_node(rt: HostRuntime) -> Result<(), Fail> {
+    let alloc = rt.alloc();
     let empty = plain(alloc, &[10], &[])?.ok_or("no instance")?;
     assert_eq!(rt; size_of(alloc, &empty)?, (1, 0));
-    Ok(())
-}
-
-#[test]
-fn caps_are_further_places(rt: HostRuntime) -> Result<(), Fail> {
-    let alloc = rt.alloc();
-    let one: [(&[u32], u32); 1] = [(&[2], 4)];
-    let instance = capped(alloc, &[10], &one, &[(1, 2)])?.ok_or("no instance")?;
-    assert_eq!(rt;
-        counts_of(&rt, alloc, &instance)?,
-        ((4, 5), (3, 4), (3, 4), 5)
-    );
-    let two: [(&[u32], u32); 2] = [(&[3, 2, 1], 2), (&[2, 3, 1], 2)];
-    let instance = plain(alloc, &[5, 5, 5], &two)?.ok_or("no instance")?;
-    assert_eq!(rt;
-        counts_of(&rt, alloc, &instance)?,
-        ((7, 9), (3, 4), (3, 4), 5)
-    );
-    let three: [(&[u32], u32); 3] = [(&[3, 2, 1], 2), (&[2, 3, 2], 1), (&[1, 1, 4], 2)];
-    let instance = capped(alloc, &[7, 6, 5], &three, &[(1, 1), (3, 2)])?.ok_or("no instance")?;
-    assert_eq!(rt;
-        counts_of(&rt, alloc, &instance)?,
-        ((13, 17), (4, 6), (3, 5), 6)
-    );
-    Ok(())
-}
-
-#[test]
-fn up_to_32_places(rt: HostRuntime) -> Result<(), Fail> {
-    let alloc = rt.alloc();
-    let nine: [(&[u32], u32); 2] = [
-        (&[1, 0, 1, 0, 1, 0, 1, 0, 1], 2),
-        (&[0, 2, 0, 2, 0, 2, 0, 2, 0], 1),
-    ];
-    let instance = capped(alloc, &[3; 9], &nine, &[(1, 1)])?.ok_or("no instance")?;
-    assert_eq!(rt;
-        counts_of(&rt, alloc, &instance)?,
-        ((7, 9), (3, 4), (3, 4), 5)
-    );
-    let many: [(&[u32], u32); 1] = [(&[1; 31], 2)];
-    let instance = capped(alloc, &[2; 31], &many, &[(1, 1)])?.ok_or("no instance")?;
-    assert_eq!(rt;
-        counts_of(&rt, alloc, &instance)?,
-        ((3, 3), (2, 2), (2, 2), 3)
-    );
     Ok(())
 }
 
@@ -211,35 +223,6 @@ fn two_forms_merge_to_two_nodes(rt: HostRuntime) -> Result<(), Fail> {
     };
     assert_eq!(rt; compiled.graph.arc(4), Some(second));
     assert_eq!(rt; compiled.graph.arc(5), None);
-    Ok(())
-}
-
-/// The numbers of labels in one dimension.
-fn numbers(alloc: Global, graph: &Graph<1>) -> Result<Vec<u32>, Memory> {
-    let mut numbers = Vec::new(alloc);
-    for label in graph.labels() {
-        numbers.push(label.get(0))?;
-    }
-    Ok(numbers)
-}
-
-#[test]
-fn labels_of_two_forms(rt: HostRuntime) -> Result<(), Fail> {
-    let alloc = rt.alloc();
-    let items: [(&[u32], u32); 2] = [(&[6], 1), (&[5], 1)];
-    let instance = plain(alloc, &[10], &items)?.ok_or("no instance")?;
-    assert!(rt; instance.dims() + instance.cap_count() <= 1);
-    let _types = instance.type_count();
-    let main = main_graph::<1>(alloc, &instance, 1, 4)?;
-    assert_eq!(rt; numbers(alloc, &main)?.as_slice(), &[4, 5, 10][..]);
-    assert_eq!(rt; main.arcs().len(), 4);
-    let last = compress_final(alloc, &main)?;
-    assert_eq!(rt; numbers(alloc, &last)?.as_slice(), &[0, 6][..]);
-    assert_eq!(rt; last.arcs().len(), 3);
-    match main_graph::<1>(alloc, &instance, 1, 3) {
-        Ok(_) => panic!(rt; "four arcs have room for three"),
-        Err(fault) => assert_eq!(rt; fault, GraphFault::TooManyArcs),
-    }
     Ok(())
 }
 
