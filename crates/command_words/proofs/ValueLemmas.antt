@@ -1,5 +1,5 @@
 -- Where no word is faulty, each value that stands with an option may stand there.
-use Rattle.std.proofs.Common.{◌≡◌, ◌∙◌, ℕ, ◌≤◌, ◌⊎◌, Bool, true, false, cond, not, ◌&&◌, List, [], ◌∷◌, ◌++◌, Option, Some, None, Result, Ok, Err, refl, sym, ap, subst, slice_get, length, arith}
+use Rattle.std.proofs.Common.{◌≡◌, ◌∙◌, ℕ, Bool, true, false, cond, ◌&&◌, List, [], ◌∷◌, ◌++◌, Option, Some, None, Result, Ok, refl, sym, ap, subst, slice_get, length, arith}
 use Rattle.std.specs.Prelude.{nat_le, unwrap_or, option_and_then}
 use Rattle.std.specs.List.{filter_map, cons_option}
 use Rattle.std.specs.Option.{option_or, option_map_or}
@@ -13,7 +13,7 @@ use Rattle.command_words.specs.declared.faults.WordFault.{WordFault}
 use Rattle.command_words.specs.Words.{Word}
 use Rattle.command_words.specs.Table.{taken_by}
 use Rattle.command_words.specs.Parts.{PartValue, Plain, Unknown, Bare, Joined, Next, parts_of}
-use Rattle.command_words.specs.Faults.{same, is_value, is_number, value_fault, value_for, value_of_setting, number_of_setting, part_fault, first_fault, few_fault, fault_in, unless, said_by, HasValues}
+use Rattle.command_words.specs.Faults.{same, is_value, is_number, value_fault, value_for, value_of_setting, number_of_setting, part_fault, first_fault, fault_in, unless, said_by, HasValues}
 use Rattle.command_words.specs.Requests.{wanted_workers, IsCount}
 
 same_is : (s t : Setting) → same s t ≡ true → t ≡ s

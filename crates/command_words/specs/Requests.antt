@@ -1,33 +1,37 @@
 -- What the words of a command line ask for.
-use Rattle.std.specs.Prelude.{◌≡◌, ℕ, ◌≤◌, Bool, ◌||◌, nat_eq, List, [], ◌∷◌, Option, Some, None, Result, Ok, Err, IsTrue, codes, string_bytes, unwrap_or}
+use Rattle.std.specs.Prelude.{◌≡◌, ℕ, ◌≤◌, Bool, ◌||◌, nat_eq, List, [], ◌∷◌, Option, Some, None, option_map, Result, Ok, Err, IsTrue, codes, string_bytes, unwrap_or}
 use Rattle.std.specs.List.{ends_with}
 use Rattle.arc_num.specs.declared.TheConstants.{MAX_WORKERS}
 use Rattle.command_words.specs.declared.table.Verb.{Verb}
 use Rattle.command_words.specs.declared.table.Verb.TheVariants as verb
-use Rattle.command_words.specs.declared.table.Setting.TheVariants.{Mvp, Workers}
+use Rattle.command_words.specs.declared.table.Setting.TheVariants.{Mvp, Cert, Workers}
 use Rattle.command_words.specs.declared.commands.Command.{Command}
-use Rattle.command_words.specs.declared.commands.Command.TheVariants.{Compile, Solve, Export, Extract}
+use Rattle.command_words.specs.declared.commands.Command.TheVariants.{Compile, Solve, Check, Export, Extract, Bound}
 use Rattle.command_words.specs.declared.faults.WordFault.{WordFault}
 use Rattle.command_words.specs.declared.faults.WordFault.TheVariants.{NoCommand, NoSuchCommand}
 use Rattle.command_words.specs.Words.{Word}
 use Rattle.command_words.specs.Table.{verb_named, row_of}
 use Rattle.command_words.specs.Parts.{PartValue}
-use Rattle.command_words.specs.Faults.{is_given, plain_of, number_of_setting, said_by, FaultIs}
+use Rattle.command_words.specs.Faults.{is_given, plain_of, value_of_setting, number_of_setting, said_by, FaultIs}
 
 -- what is asked for: a command, with the name of an instance and whether it is read as `.mvp`, and for some how many threads
--- may work at once, or the name of a second text that is read
+-- may work at once, the name of a second text that is read, or the name under which a certificate is written
 pub data Request : Type 0 where
   Compiles : (name : List ℕ) (mvp : Bool) (workers : ℕ) → Request
   Solves : (name : List ℕ) (mvp : Bool) (workers : ℕ) → Request
+  Checks : (name certificate : List ℕ) (mvp : Bool) (workers : ℕ) → Request
   Exports : (name : List ℕ) (mvp : Bool) → Request
   Extracts : (name solution : List ℕ) (mvp : Bool) → Request
+  Bounds : (name : List ℕ) (mvp : Bool) (certificate : Option (List ℕ)) → Request
 
 -- what a command asks for
 abbrev pub request_of : Command → Request
 request_of (Compile name mvp workers) = Compiles (string_bytes name) mvp workers
 request_of (Solve name mvp workers) = Solves (string_bytes name) mvp workers
+request_of (Check name certificate mvp workers) = Checks (string_bytes name) (string_bytes certificate) mvp workers
 request_of (Export name mvp) = Exports (string_bytes name) mvp
 request_of (Extract name solution mvp) = Extracts (string_bytes name) (string_bytes solution) mvp
+request_of (Bound name mvp certificate) = Bounds (string_bytes name) mvp (option_map string_bytes certificate)
 
 -- where an instance comes from: the name under which it is read, and whether it is read as `.mvp`
 pub record SourceValue : Type 0 where
@@ -38,8 +42,10 @@ pub record SourceValue : Type 0 where
 abbrev pub source_of : Request → SourceValue
 source_of (Compiles name mvp workers) = record { name = name; mvp = mvp }
 source_of (Solves name mvp workers) = record { name = name; mvp = mvp }
+source_of (Checks name certificate mvp workers) = record { name = name; mvp = mvp }
 source_of (Exports name mvp) = record { name = name; mvp = mvp }
 source_of (Extracts name solution mvp) = record { name = name; mvp = mvp }
+source_of (Bounds name mvp certificate) = record { name = name; mvp = mvp }
 
 -- the name of the instance
 abbrev pub name_of : Request → List ℕ
@@ -53,8 +59,10 @@ is_mvp_of request = (source_of request).mvp
 abbrev pub verb_of : Request → Verb
 verb_of (Compiles name mvp workers) = verb.Compile
 verb_of (Solves name mvp workers) = verb.Solve
+verb_of (Checks name certificate mvp workers) = verb.Check
 verb_of (Exports name mvp) = verb.Export
 verb_of (Extracts name solution mvp) = verb.Extract
+verb_of (Bounds name mvp certificate) = verb.Bound
 
 -- the graphs of the instance are made for the request
 abbrev pub MakesGraphs : Request → Type 0
@@ -64,15 +72,19 @@ MakesGraphs request = IsTrue (row_of (verb_of request)).makes_graphs
 abbrev pub certificate_of : Request → Option Word
 certificate_of (Compiles name mvp workers) = None
 certificate_of (Solves name mvp workers) = None
+certificate_of (Checks name certificate mvp workers) = None
 certificate_of (Exports name mvp) = None
 certificate_of (Extracts name solution mvp) = None
+certificate_of (Bounds name mvp certificate) = certificate
 
 -- how many threads may work at once for the request: 1 where it says nothing of that
 abbrev pub workers_of : Request → ℕ
 workers_of (Compiles name mvp workers) = workers
 workers_of (Solves name mvp workers) = workers
+workers_of (Checks name certificate mvp workers) = workers
 workers_of (Exports name mvp) = 1
 workers_of (Extracts name solution mvp) = 1
+workers_of (Bounds name mvp certificate) = 1
 
 -- a number of threads that may work at once
 abbrev pub IsCount : ℕ → Type 0
@@ -100,8 +112,10 @@ wanted_workers parts = unwrap_or (number_of_setting Workers parts) 1
 abbrev pub request_from : Verb → List PartValue → Request
 request_from verb.Compile parts = Compiles (first_name parts) (wants_mvp parts) (wanted_workers parts)
 request_from verb.Solve parts = Solves (first_name parts) (wants_mvp parts) (wanted_workers parts)
+request_from verb.Check parts = Checks (first_name parts) (name_at 1 parts) (wants_mvp parts) (wanted_workers parts)
 request_from verb.Export parts = Exports (first_name parts) (wants_mvp parts)
 request_from verb.Extract parts = Extracts (first_name parts) (name_at 1 parts) (wants_mvp parts)
+request_from verb.Bound parts = Bounds (first_name parts) (wants_mvp parts) (value_of_setting Cert parts)
 
 abbrev pub asked : Verb → Result (List PartValue) WordFault → Result Request WordFault
 asked command (Ok parts) = Ok (request_from command parts)

@@ -3,9 +3,9 @@ use Rattle.std.specs.Prelude.{ℕ, Bool, true, false, ◌==◌, if◌then◌else
 use Rattle.std.specs.Str.{bytes_eq}
 use Rattle.arc_num.specs.declared.TheConstants.{MAX_SPLITS, MAX_WORKERS}
 use Rattle.command_words.specs.declared.table.Verb.{Verb}
-use Rattle.command_words.specs.declared.table.Verb.TheVariants.{Compile, Solve, Export, Extract}
+use Rattle.command_words.specs.declared.table.Verb.TheVariants.{Compile, Solve, Check, Export, Extract, Bound}
 use Rattle.command_words.specs.declared.table.PlainWord.{PlainWord}
-use Rattle.command_words.specs.declared.table.PlainWord.TheVariants.{Instance, Solution}
+use Rattle.command_words.specs.declared.table.PlainWord.TheVariants.{Instance, Certificate, Solution}
 use Rattle.command_words.specs.declared.table.Setting.{Setting}
 use Rattle.command_words.specs.declared.table.Setting.TheVariants.{Mvp, Joint, Nodes, Cert, Workers}
 use Rattle.command_words.specs.declared.table.Takes.{Takes}
@@ -19,8 +19,10 @@ abbrev pub verb_named : Word → Option Verb
 verb_named w =
     if bytes_eq w (codes "compile") then Some Compile
     else (if bytes_eq w (codes "solve") then Some Solve
+    else (if bytes_eq w (codes "check") then Some Check
     else (if bytes_eq w (codes "export") then Some Export
-    else (if bytes_eq w (codes "extract") then Some Extract else None)))
+    else (if bytes_eq w (codes "extract") then Some Extract
+    else (if bytes_eq w (codes "bound") then Some Bound else None)))))
 
 -- NAME [--mvp]
 abbrev pub instance_shape : Shape
@@ -30,16 +32,26 @@ instance_shape = record { first = Instance; second = None; mvp = true; joint = f
 abbrev pub shared_instance_shape : Shape
 shared_instance_shape = record { first = Instance; second = None; mvp = true; joint = false; nodes = false; cert = false; workers = true }
 
+-- NAME CERT [--mvp] [--workers K]
+abbrev pub certified_instance_shape : Shape
+certified_instance_shape = record { first = Instance; second = Some Certificate; mvp = true; joint = false; nodes = false; cert = false; workers = true }
+
 -- NAME SOL [--mvp]
 abbrev pub solved_instance_shape : Shape
 solved_instance_shape = record { first = Instance; second = Some Solution; mvp = true; joint = false; nodes = false; cert = false; workers = false }
+
+-- NAME [--mvp] [--cert CERT]
+abbrev pub certifiable_instance_shape : Shape
+certifiable_instance_shape = record { first = Instance; second = None; mvp = true; joint = false; nodes = false; cert = true; workers = false }
 
 -- the rows: the plain words and options of each command, and whether it makes the graphs of the instance
 abbrev pub row_of : Verb → Row
 row_of Compile = record { shape = shared_instance_shape; makes_graphs = true }
 row_of Solve = record { shape = shared_instance_shape; makes_graphs = false }
+row_of Check = record { shape = certified_instance_shape; makes_graphs = true }
 row_of Export = record { shape = instance_shape; makes_graphs = true }
 row_of Extract = record { shape = solved_instance_shape; makes_graphs = true }
+row_of Bound = record { shape = certifiable_instance_shape; makes_graphs = false }
 
 -- the option of a name
 abbrev pub setting_named : Word → Option Setting

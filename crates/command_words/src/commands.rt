@@ -1,8 +1,9 @@
 //! What the command line asks for.
 
-ghost use Rattle.std.specs.Prelude.{◌≡◌, ◌↔◌, map, string_bytes, IfOk, IsTrue};
-ghost use Rattle.command_words.specs.Faults.{HasValues};
-ghost use Rattle.command_words.specs.Requests.{request_of, source_of, name_of, is_mvp_of, verb_of, workers_of, HasWorkers, MakesGraphs, name_at, wants_mvp, wanted_workers, IsCount, request_from, Answers};
+ghost use Rattle.std.specs.Prelude.{◌≡◌, ◌↔◌, map, option_map, string_bytes, IfOk, IsTrue};
+ghost use Rattle.command_words.specs.Faults.{HasValues, value_of_setting};
+ghost use Rattle.command_words.specs.declared.table.Setting.TheVariants.{Cert};
+ghost use Rattle.command_words.specs.Requests.{request_of, certificate_of, source_of, name_of, is_mvp_of, verb_of, workers_of, HasWorkers, MakesGraphs, name_at, wants_mvp, wanted_workers, IsCount, request_from, Answers};
 
 use crate::faults::WordFault;
 use crate::found::Found;
@@ -11,7 +12,7 @@ use arc_num::Memory;
 use std::alloc::Global;
 
 /// What the command line asks for. `mvp` says that the instance is read in the `.mvp` layout, `workers` how many threads
-/// may work at once.
+/// may work at once, `cert` under which name a certificate is read or written.
 #[derive(Debug, Drop)]
 pub enum Command {
     Compile {
@@ -24,6 +25,12 @@ pub enum Command {
         mvp: bool,
         workers: u32,
     },
+    Check {
+        name: String,
+        cert: String,
+        mvp: bool,
+        workers: u32,
+    },
     Export {
         name: String,
         mvp: bool,
@@ -32,6 +39,11 @@ pub enum Command {
         name: String,
         solution: String,
         mvp: bool,
+    },
+    Bound {
+        name: String,
+        mvp: bool,
+        cert: Option<String>,
     },
 }
 
@@ -58,11 +70,19 @@ impl Command {
                 name: name.as_str(),
                 mvp: *mvp,
             },
+            Command::Check { name, mvp, .. } => Source {
+                name: name.as_str(),
+                mvp: *mvp,
+            },
             Command::Export { name, mvp } => Source {
                 name: name.as_str(),
                 mvp: *mvp,
             },
             Command::Extract { name, mvp, .. } => Source {
+                name: name.as_str(),
+                mvp: *mvp,
+            },
+            Command::Bound { name, mvp, .. } => Source {
                 name: name.as_str(),
                 mvp: *mvp,
             },
@@ -75,8 +95,10 @@ impl Command {
         match self {
             Command::Compile { .. } => Verb::Compile,
             Command::Solve { .. } => Verb::Solve,
+            Command::Check { .. } => Verb::Check,
             Command::Export { .. } => Verb::Export,
             Command::Extract { .. } => Verb::Extract,
+            Command::Bound { .. } => Verb::Bound,
         }
     }
 
@@ -87,8 +109,10 @@ impl Command {
         match self {
             Command::Compile { workers, .. } => *workers,
             Command::Solve { workers, .. } => *workers,
+            Command::Check { workers, .. } => *workers,
             Command::Export { .. } => 1,
             Command::Extract { .. } => 1,
+            Command::Bound { .. } => 1,
         }
     }
 
@@ -106,8 +130,24 @@ impl Command {
         match self {
             Command::Compile { name, .. } => name,
             Command::Solve { name, .. } => name,
+            Command::Check { name, .. } => name,
             Command::Export { name, .. } => name,
             Command::Extract { name, .. } => name,
+            Command::Bound { name, .. } => name,
+        }
+    }
+
+    /// The name under which a certificate is to be written, given away, where one is asked for.
+    pub fn into_certificate(self) -> Option<String>
+        ensures { option_map string_bytes result ≡ certificate_of (request_of self) }
+    {
+        match self {
+            Command::Compile { .. } => None,
+            Command::Solve { .. } => None,
+            Command::Check { .. } => None,
+            Command::Export { .. } => None,
+            Command::Extract { .. } => None,
+            Command::Bound { cert, .. } => cert,
         }
     }
 }
@@ -121,6 +161,19 @@ fn name_at(alloc: Global, found: &Found, place: usize) -> Result<String, Memory>
         None => String::new(alloc),
     };
     Ok(name)
+}
+
+/// The name under which a certificate is to be written, where the words ask for one.
+fn wanted_certificate(alloc: Global, found: &Found) -> Result<Option<String>, Memory>
+    ensures { IfOk result (λ cert. option_map string_bytes cert ≡ value_of_setting Cert found.now) }
+{
+    match found.value(Setting::Cert) {
+        Some(name) => {
+            let cert = String::from_str(alloc, name)?;
+            Ok(Some(cert))
+        }
+        None => Ok(None),
+    }
 }
 
 /// How many threads may work at once: 1 where nothing is said.
@@ -147,6 +200,15 @@ fn command_from(alloc: Global, verb: Verb, found: &Found) -> Result<Command, Mem
     match verb {
         Verb::Compile => Ok(Command::Compile { name, mvp, workers }),
         Verb::Solve => Ok(Command::Solve { name, mvp, workers }),
+        Verb::Check => {
+            let cert = name_at(alloc, found, 1)?;
+            Ok(Command::Check {
+                name,
+                cert,
+                mvp,
+                workers,
+            })
+        }
         Verb::Export => Ok(Command::Export { name, mvp }),
         Verb::Extract => {
             let solution = name_at(alloc, found, 1)?;
@@ -155,6 +217,10 @@ fn command_from(alloc: Global, verb: Verb, found: &Found) -> Result<Command, Mem
                 solution,
                 mvp,
             })
+        }
+        Verb::Bound => {
+            let cert = wanted_certificate(alloc, found)?;
+            Ok(Command::Bound { name, mvp, cert })
         }
     }
 }

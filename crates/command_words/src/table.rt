@@ -10,8 +10,10 @@ use arc_num::{MAX_SPLITS, MAX_WORKERS};
 pub enum Verb {
     Compile,
     Solve,
+    Check,
     Export,
     Extract,
+    Bound,
 }
 
 /// What a plain word of a command stands for.
@@ -89,9 +91,21 @@ const SHARED_INSTANCE: Shape = Shape {
     ..INSTANCE
 };
 
+/// An instance and a certificate for it, which several threads may work on.
+const CERTIFIED_INSTANCE: Shape = Shape {
+    second: Some(PlainWord::Certificate),
+    ..SHARED_INSTANCE
+};
+
 /// An instance, and a solution of its model.
 const SOLVED_INSTANCE: Shape = Shape {
     second: Some(PlainWord::Solution),
+    ..INSTANCE
+};
+
+/// An instance whose certificate may be written.
+const CERTIFIABLE_INSTANCE: Shape = Shape {
+    cert: true,
     ..INSTANCE
 };
 
@@ -103,8 +117,10 @@ impl Verb {
         match word {
             "compile" => Some(Verb::Compile),
             "solve" => Some(Verb::Solve),
+            "check" => Some(Verb::Check),
             "export" => Some(Verb::Export),
             "extract" => Some(Verb::Extract),
+            "bound" => Some(Verb::Bound),
             _ => None,
         }
     }
@@ -122,6 +138,10 @@ impl Verb {
                 shape: SHARED_INSTANCE,
                 makes_graphs: false,
             },
+            Verb::Check => Row {
+                shape: CERTIFIED_INSTANCE,
+                makes_graphs: true,
+            },
             Verb::Export => Row {
                 shape: INSTANCE,
                 makes_graphs: true,
@@ -129,6 +149,10 @@ impl Verb {
             Verb::Extract => Row {
                 shape: SOLVED_INSTANCE,
                 makes_graphs: true,
+            },
+            Verb::Bound => Row {
+                shape: CERTIFIABLE_INSTANCE,
+                makes_graphs: false,
             },
         }
     }

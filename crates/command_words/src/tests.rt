@@ -92,6 +92,44 @@ fn commands_are_read(rt: HostRuntime) -> Result<(), Fail> {
 }
 
 #[test]
+fn certificates_to_be_read_are_named(rt: HostRuntime) -> Result<(), Fail> {
+    match command(rt.alloc(), "check - b.cert --workers 8")? {
+        Command::Check {
+            name,
+            cert,
+            mvp,
+            workers,
+        } => assert_eq!(rt;
+            (name.as_str(), cert.as_str(), mvp, workers),
+            ("-", "b.cert", false, 8)
+        ),
+        _ => panic!(rt; "another command is read"),
+    }
+    Ok(())
+}
+
+#[test]
+fn certificates_to_be_written_are_named(rt: HostRuntime) -> Result<(), Fail> {
+    match command(rt.alloc(), "bound --cert=b.cert a.mvp")? {
+        Command::Bound { name, mvp, cert } => {
+            assert_eq!(rt; (name.as_str(), mvp), ("a.mvp", true));
+            assert_eq!(rt; cert.as_deref(), Some("b.cert"));
+        }
+        _ => panic!(rt; "another command is read"),
+    }
+    for (words, name) in [
+        ("bound a", None),
+        ("bound a --cert c", Some("c")),
+        ("check a c", None),
+        ("solve a", None),
+    ] {
+        let cert = command(rt.alloc(), words)?.into_certificate();
+        assert_eq!(rt; cert.as_deref(), name, "{words}");
+    }
+    Ok(())
+}
+
+#[test]
 fn first_faulty_words_are_named(rt: HostRuntime) {
     for (words, fault) in [
         ("", WordFault::NoCommand),
@@ -109,6 +147,13 @@ fn first_faulty_words_are_named(rt: HostRuntime) {
         ("extract - -", WordFault::BadName { word: 3 }),
         ("extract a ", WordFault::BadName { word: 3 }),
         ("extract a", WordFault::TooFewWords),
+        ("check - -", WordFault::BadName { word: 3 }),
+        ("check a b --cert c", WordFault::NoSuchOption { word: 4 }),
+        ("bound - -", WordFault::TooManyWords { word: 3 }),
+        ("bound a --cert -", WordFault::BadValue { word: 4 }),
+        ("bound a --cert=", WordFault::BadValue { word: 3 }),
+        ("bound a --cert", WordFault::NoValue { word: 3 }),
+        ("bound a --workers 2", WordFault::NoSuchOption { word: 3 }),
     ] {
         match command(rt.alloc(), words) {
             Ok(_) => panic!(rt; "{words} is read"),

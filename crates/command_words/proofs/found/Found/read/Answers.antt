@@ -1,8 +1,6 @@
-use Rattle.std.proofs.Common.{◌≡◌, ◌∙◌, List, Option, None, Ok, Result, map, string_bytes, sym, ap, subst}
-use Rattle.command_words.specs.declared.faults.WordFault.{WordFault}
-use Rattle.command_words.specs.Words.{Word}
-use Rattle.command_words.specs.Parts.{PartValue, part_value, parts_of}
-use Rattle.command_words.specs.Faults.{fault_in, unless, said_by}
+use Rattle.std.proofs.Common.{◌∙◌, List, map, string_bytes, ap}
+use Rattle.command_words.specs.Parts.{part_value}
+use Rattle.command_words.specs.Faults.{fault_in}
 use Rattle.command_words.proofs.ValueLemmas.{has_values, said_parts}
 use Rattle.command_words.proofs.found.Found.read.Goals as goal
 
