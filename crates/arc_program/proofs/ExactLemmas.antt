@@ -1,5 +1,5 @@
 -- What came in leads to no other status.
-use Rattle.std.proofs.Common.{◌≡◌, ◌⊎◌, ◌∙◌, ℕ, List, refl, sym, ap, subst, inl, inr, Some, None, IfSome, IsSomeAnd, Result, Ok, Err, arith}
+use Rattle.std.proofs.Common.{◌≡◌, ◌⊎◌, ◌∙◌, ℕ, List, Option, refl, sym, ap, subst, inl, inr, Some, None, IsSomeAnd, Result, Ok, Err, arith}
 use Rattle.std.proofs.lemmas.Option.{same_Some}
 use Rattle.arc_io.specs.Bytes.{Told}
 use Rattle.arc_io.specs.Faults.{Rose}
@@ -13,14 +13,16 @@ use Rattle.arc_program.specs.declared.status.Status.TheVariants.{Done, Bracketed
 use Rattle.command_words.specs.declared.faults.WordFault.{WordFault}
 use Rattle.command_words.specs.Requests.{Request}
 use Rattle.arc_program.specs.World.{World}
+use Rattle.arc_program.specs.Writing.{WriteRose}
 use Rattle.arc_program.specs.Printing.{Line}
-use Rattle.command_words.specs.Requests.{name_of, MakesGraphs}
+use Rattle.command_words.specs.Requests.{name_of, certificate_of, MakesGraphs}
 use Rattle.arc_program.specs.Requests.{layout_of, IsAccepted, IsLong, IsBadAt, IsRefused, IsLargeAt, IsRead, IsGood}
 use Rattle.arc_program.specs.Statuses.{IsReported}
 use Rattle.arc_program.specs.Texts.{TextValue, second_text, second_held, held_at}
 use Rattle.arc_program.specs.commands.{IsReport, IsRejection, IsFit, FitIsNotRejected}
 use Rattle.arc_program.specs.Ends.{IsOwed, IsOwedRejection, SaysWhy, Reports, RefusesSecond, FailsAt, Answers, Ends, IsRejected, HasFit, MustEnd, IsExact}
 use Rattle.arc_program.specs.inner.Performed.{SmallIsNotLarge}
+use Rattle.arc_program.proofs.Told.{if_told, at_told}
 use Rattle.arc_program.proofs.FlowTexts.{ok_one}
 use Rattle.arc_program.proofs.Seconds.{report_small, report_fit}
 
@@ -32,14 +34,6 @@ pub small_is_not_large : SizesAreOne → ReadsItsRow Vbp → ReadsItsRow Mvp →
 small_is_not_large one vbp mvp request bytes I t accepted small large =
     let same : I ≡ large.0 = ok_one (layouts.reading_of (layout_of request) bytes) I large.0 accepted.1 large.1.1 in
     one.small I t (reads-instance vbp mvp (layout_of request) bytes I accepted.1) small (subst (λ (J : InstanceValue). IsTooLarge J t) (sym same) large.2)
-
--- what holds of what is told
-if_told : (told : Told) (P : List ℕ → Type 0) → ((bytes : List ℕ) → told ≡ Some bytes → P bytes) → IfSome told P
-if_told None P h = tt
-if_told (Some bytes) P h = h bytes refl
-
-at_told : (told : Told) (P : List ℕ → Type 0) (bytes : List ℕ) → told ≡ Some bytes → IfSome told P → P bytes
-at_told told P bytes e h = subst (λ (t : Told). IfSome t P) e h
 
 -- bytes that spell an instance are not refused
 accepted_not_refused : (request : Request) (bytes : List ℕ) (I : InstanceValue) → IsAccepted request bytes I → IsRefused request bytes → ⊥
@@ -58,15 +52,15 @@ module _ (never : SmallIsNotLarge) (fit_or_not : FitIsNotRejected) (request : Re
   one_instance : (I J : InstanceValue) → IsAccepted request bytes I → IsAccepted request bytes J → I ≡ J
   one_instance I J first second = ok_one (layouts.reading_of (layout_of request) bytes) I J first.1 second.1
 
-  not_refused : (status : Status) (text : List ℕ) → IsOwed request before.shelf status text → IsRefused request bytes → ⊥
-  not_refused status text owed refused = accepted_not_refused request bytes owed.instance (accepted_of owed.instance owed.read) refused
+  not_refused : (status : Status) (text : List ℕ) (certificate : Option (List ℕ)) → IsOwed request before.shelf status text certificate → IsRefused request bytes → ⊥
+  not_refused status text certificate owed refused = accepted_not_refused request bytes owed.instance (accepted_of owed.instance owed.read) refused
 
-  not_large : (status : Status) (text : List ℕ) → IsOwed request before.shelf status text → (t : ℕ) → MakesGraphs request → IsLargeAt request t bytes → ⊥
-  not_large status text owed t makes large = never request bytes owed.instance t (accepted_of owed.instance owed.read) (report_small request (second_held request before.shelf.held) owed.instance status text makes owed.report) large
+  not_large : (status : Status) (text : List ℕ) (certificate : Option (List ℕ)) → IsOwed request before.shelf status text certificate → (t : ℕ) → MakesGraphs request → IsLargeAt request t bytes → ⊥
+  not_large status text certificate owed t makes large = never request bytes owed.instance t (accepted_of owed.instance owed.read) (report_small request (second_held request before.shelf.held) owed.instance status text makes owed.report) large
 
   -- where there is a report, the second text is not refused
-  not_rejected : (status : Status) (report : List ℕ) → IsOwed request before.shelf status report → (I : InstanceValue) (text : TextValue) → second_text request ≡ Some text → IsGood request bytes I → IsRejected request (before.shelf.held text.name) I → ⊥
-  not_rejected status report owed I text is good rejected = by_bytes (before.shelf.held text.name) refl rejected
+  not_rejected : (status : Status) (report : List ℕ) (certificate : Option (List ℕ)) → IsOwed request before.shelf status report certificate → (I : InstanceValue) (text : TextValue) → second_text request ≡ Some text → IsGood request bytes I → IsRejected request (before.shelf.held text.name) I → ⊥
+  not_rejected status report certificate owed I text is good rejected = by_bytes (before.shelf.held text.name) refl rejected
     where
       same : owed.instance ≡ I
       same = one_instance owed.instance I (accepted_of owed.instance owed.read) good.0
@@ -100,15 +94,15 @@ module _ (never : SmallIsNotLarge) (fit_or_not : FitIsNotRejected) (request : Re
         refused = λ refused. absurd (accepted_not_refused request bytes owed.instance accepted refused);
         large = λ t makes large. absurd (never request bytes owed.instance t accepted (owed.small makes) large);
         rejected = λ I text is good rejected. inl (sym ends.refused ∙ ap (λ (t : TextValue). t.refused) (same_Some ends.text text (sym ends.shelf.second ∙ is)));
-        accepted = λ I good fit reads puts. absurd (not_fit ends.text ends.line ends.shelf.second owed I good fit);
+        accepted = λ I good fit reads writes puts. absurd (not_fit ends.text ends.line ends.shelf.second owed I good fit);
       }
 
   reports_must_end : (status : Status) → IsReported status → Reports request before after status → MustEnd request bytes before after status
   reports_must_end status reported ends = record {
-    refused = λ refused. absurd (not_refused status ends.text ends.owed refused);
-    large = λ t makes large. absurd (not_large status ends.text ends.owed t makes large);
-    rejected = λ I text is good rejected. absurd (not_rejected status ends.text ends.owed I text is good rejected);
-    accepted = λ I good fit reads puts. inl reported;
+    refused = λ refused. absurd (not_refused status ends.text ends.certificate ends.owed refused);
+    large = λ t makes large. absurd (not_large status ends.text ends.certificate ends.owed t makes large);
+    rejected = λ I text is good rejected. absurd (not_rejected status ends.text ends.certificate ends.owed I text is good rejected);
+    accepted = λ I good fit reads writes puts. inl reported;
   }
 
   must_end : (status : Status) → Answers request before after status → MustEnd request bytes before after status
@@ -121,30 +115,40 @@ module _ (never : SmallIsNotLarge) (fit_or_not : FitIsNotRejected) (request : Re
         refused = λ _. inl refl;
         large = λ t makes large. absurd (accepted_not_refused request bytes large.0 large.1 refused);
         rejected = λ I text is good rejected. absurd (accepted_not_refused request bytes I good.0 refused);
-        accepted = λ I good fit reads puts. absurd (accepted_not_refused request bytes I good.0 refused);
+        accepted = λ I good fit reads writes puts. absurd (accepted_not_refused request bytes I good.0 refused);
       }
   must_end BadCertificate ends = second_must_end BadCertificate ends
   must_end ReadFaults ends = record {
     refused = λ _. inr (inl refl);
     large = λ t makes large. inr (inl refl);
     rejected = λ I text is good rejected. inr (inl refl);
-    accepted = λ I good fit reads puts. absurd (reads (read_rose ends.shelf));
+    accepted = λ I good fit reads writes puts. absurd (reads (read_rose ends.shelf));
   }
     where
       read_rose : FailsAt request ends.name before.shelf after.shelf → Rose before.shelf.read_faults after.shelf.read_faults
       read_rose (inl h) = h.1.faults
-      read_rose (inr h) = subst (λ (n : ℕ). Rose n after.shelf.read_faults) h.2.read.faults h.2.goes.faults
-  must_end WriteFault ends = record {
-    refused = λ refused. absurd (not_refused ends.status ends.text ends.owed refused);
-    large = λ t makes large. absurd (not_large ends.status ends.text ends.owed t makes large);
-    rejected = λ I text is good rejected. absurd (not_rejected ends.status ends.text ends.owed I text is good rejected);
-    accepted = λ I good fit reads puts. absurd (puts (subst (λ (n : ℕ). Rose n after.out.faults) ends.printed.taken.faults ends.printed.refused.faults));
+      read_rose (inr h) = subst (λ (n : ℕ). Rose n after.shelf.read_faults) h.2.reads.read.faults h.2.reads.goes.faults
+  must_end WriteFault (inl ends) = record {
+    refused = λ refused. absurd (not_refused ends.status ends.text ends.certificate ends.owed refused);
+    large = λ t makes large. absurd (not_large ends.status ends.text ends.certificate ends.owed t makes large);
+    rejected = λ I text is good rejected. absurd (not_rejected ends.status ends.text ends.certificate ends.owed I text is good rejected);
+    accepted = λ I good fit reads writes puts. absurd (writes (write_rose (certificate_of request) ends.shelf.named));
+  }
+    where
+      write_rose : (name : Option (List ℕ)) → name ≡ Some ends.shelf.name → WriteRose name before.shelf after.shelf
+      write_rose None named = absurd (cc)
+      write_rose (Some name) named = subst (λ (n : ℕ). Rose n after.shelf.write_faults) ends.shelf.keeps.faults ends.shelf.goes.faults
+  must_end WriteFault (inr ends) = record {
+    refused = λ refused. absurd (not_refused ends.status ends.text ends.certificate ends.owed refused);
+    large = λ t makes large. absurd (not_large ends.status ends.text ends.certificate ends.owed t makes large);
+    rejected = λ I text is good rejected. absurd (not_rejected ends.status ends.text ends.certificate ends.owed I text is good rejected);
+    accepted = λ I good fit reads writes puts. absurd (puts (subst (λ (n : ℕ). Rose n after.out.faults) ends.printed.taken.faults ends.printed.refused.faults));
   }
   must_end NoMemory ends = record {
     refused = λ _. inr (inr refl);
     large = λ t makes large. inr (inr refl);
     rejected = λ I text is good rejected. inr (inr refl);
-    accepted = λ I good fit reads puts. inr refl;
+    accepted = λ I good fit reads writes puts. inr refl;
   }
   must_end TooLarge ends =
       let accepted = accepted_of ends.instance ends.read in
@@ -152,7 +156,7 @@ module _ (never : SmallIsNotLarge) (fit_or_not : FitIsNotRejected) (request : Re
         refused = λ refused. absurd (accepted_not_refused request bytes ends.instance accepted refused);
         large = λ t makes large. inl refl;
         rejected = λ I text is good rejected. absurd (never request bytes I ends.t good.0 (good.1 ends.makes) (ends.instance, accepted, ends.large));
-        accepted = λ I good fit reads puts. absurd (never request bytes I ends.t good.0 (good.1 ends.makes) (ends.instance, accepted, ends.large));
+        accepted = λ I good fit reads writes puts. absurd (never request bytes I ends.t good.0 (good.1 ends.makes) (ends.instance, accepted, ends.large));
       }
   must_end BadSolution ends = second_must_end BadSolution ends
 

@@ -1,5 +1,5 @@
 -- What the bytes of a solution lead to, and what is read for that.
-use Rattle.std.proofs.Common.{◌≡◌, ◌∙◌, ℕ, Bool, ◌≤◌, List, length, refl, sym, ap, subst, inl, inr, Some, None, IfSome, Ok, Err, Result, IsErrAnd}
+use Rattle.std.proofs.Common.{◌≡◌, ◌⊎◌, ◌∙◌, ℕ, ◌+◌, Bool, ◌≤◌, List, length, take, drop, refl, sym, ap, subst, inl, inr, Some, None, IfSome, Ok, Err, Result, IsErrAnd}
 use Rattle.arc_num.specs.declared.TheConstants.{MAX_INSTANCE}
 use Rattle.arc_io.specs.Bytes.{Told}
 use Rattle.packing_laws.specs.declared.packings.Bin.{Bin}
@@ -19,14 +19,15 @@ use Rattle.arc_program.specs.declared.loading.LoadFault.TheVariants as load
 use Rattle.arc_program.specs.declared.status.Status.{Status}
 use Rattle.arc_program.specs.declared.status.Status.TheVariants.{Done, BadSolution}
 use Rattle.arc_program.specs.World.{ShelfSeen}
-use Rattle.arc_program.specs.Reading.{HasRead}
-use Rattle.arc_program.specs.Texts.{TextValue}
+use Rattle.arc_program.specs.Reading.{HasRead, HasFailed, LeavesNothing, TakesFirst}
+use Rattle.arc_program.specs.Texts.{TextValue, second_text}
 use Rattle.arc_program.specs.Printing.{Line}
 use Rattle.arc_program.specs.Statuses.{IsReported}
 use Rattle.arc_program.specs.Requests.{IsLong}
 use Rattle.arc_program.specs.Reports.{packing_text}
 use Rattle.arc_program.specs.Refusals.{named_line, long_line}
 use Rattle.arc_program.specs.Rejections.{fault_said, row_said}
+use Rattle.arc_program.specs.commands.{IsUndecided, StopsUndecided}
 use Rattle.arc_program.specs.commands.Extract.{IsCompiled, Gives, HasFault, IsExtracted, GivesNoFlow}
 use Rattle.arc_program.specs.inner.Loading.{Loads}
 use Rattle.arc_program.specs.inner.Work.{Works}
@@ -47,8 +48,8 @@ module _ (I : InstanceValue) (name bytes : List ℕ) where
       pub judges_row : (row : FlowRow) (line : Line) (r : WorkFault) → FirstBadRow I g values (Some row) → line ≡ named_line name (row_said g row) → r ≡ work.Rejected line BadSolution → Judges I name bytes (Err r)
       judges_row row line r first said is = subst (λ (f : WorkFault). Judges I name bytes (Err f)) (sym is) (refl, inr (inr (record { graph = g; compiled = compiled; values = values; given = (short, meant); row = row; first = first; line_is = said })))
 
-      pub judges_packing : IsSmall I → (found : List Bin) (text : List ℕ) → IsPackingOf I g values found → IsKeptText I found text → (report : Report) → report.status ≡ Done → report.text ≡ text → Judges I name bytes (Ok report)
-      judges_packing small found text packing kept report status_is text_is =
+      pub judges_packing : IsSmall I → (found : List Bin) (text : List ℕ) → IsPackingOf I g values found → IsKeptText I found text → (report : Report) → report.status ≡ Done → report.text ≡ text → report.certificate ≡ None → Judges I name bytes (Ok report)
+      judges_packing small found text packing kept report status_is text_is alone =
           let printed : report.text ≡ packing_text (flow_cost I g values) kept.bins = text_is ∙ kept.text_is ∙ ap (λ (n : ℕ). packing_text n kept.bins) packing.cost in (
             subst IsReported (sym status_is) tt,
             record {
@@ -66,6 +67,7 @@ module _ (I : InstanceValue) (name bytes : List ℕ) where
               text_is = printed;
               status_is = status_is;
             },
+            alone,
           )
 
 -- what holds of the bytes that were read, where what is held is told
@@ -107,7 +109,7 @@ module _ (name solution : List ℕ) (mvp : Bool) (I : InstanceValue) (before aft
 
   -- the bytes were read, and what they lead to is known
   pub judged_works : IsSmall I → (bytes : List ℕ) (r : Result Report WorkFault) → Loads solution (Ok bytes) before after → Judges I solution bytes r → Works request I before after r
-  judged_works small bytes (Ok report) loads judged = (judged.0, extracted_told I bytes (before.held solution) report.status report.text loads.1 judged.1, loads.2)
+  judged_works small bytes (Ok report) loads judged = (judged.0, extracted_told I bytes (before.held solution) report.status report.text loads.1 judged.1, loads.2, judged.2)
   judged_works small bytes (Err (work.Large t)) loads judged = absurd judged
   judged_works small bytes (Err (work.Unread unread)) loads judged = absurd judged
   judged_works small bytes (Err (work.Rejected line status)) loads judged =
@@ -118,6 +120,18 @@ module _ (name solution : List ℕ) (mvp : Bool) (I : InstanceValue) (before aft
   -- the solution was too long, and that is said
   pub long_works : IsSmall I → (line : Line) (fault : WorkFault) → line ≡ long_line solution → fault ≡ work.Rejected line BadSolution → Loads solution (Err load.Long) before after → Works request I before after (Err fault)
   long_works small line fault said is loads = subst (λ (f : WorkFault). Works request I before after (Err f)) (sym is) (refuses small line (inl (said, loads.0)) loads.1)
+
+  -- a read failed, under the name that was asked for
+  pub unread_works : (said : List ℕ) → said ≡ solution → Loads solution (Err load.Failed) before after → (text : TextValue) × (second_text request ≡ Some text) × (said ≡ text.name) × HasFailed text.name text.most before after × StopsUndecided request I (before.held text.name) before after
+  unread_works said same failed = (text_of, refl, same, failed, stops failed.taken)
+    where
+      taken_so : (told : Told) → IfSome told (λ bytes. (n : ℕ) × (n ≤ MAX_INSTANCE + 1) × (after.left ≡ Some (drop n bytes))) → IfSome told (λ bytes. (n : ℕ) × (after.left ≡ Some (drop n bytes)) × IsUndecided request I (take n bytes))
+      taken_so None here = tt
+      taken_so (Some bytes) here = (here.0, here.2, tt)
+
+      stops : LeavesNothing before after ⊎ TakesFirst solution MAX_INSTANCE before after → StopsUndecided request I (before.held solution) before after
+      stops (inl nothing) = inl nothing
+      stops (inr taken) = inr (taken_so (before.held solution) taken)
 
   -- memory was wanting, behind a read that went well or not
   pub starved_failed : Loads solution (Err load.Failed) before after → Works request I before after (Err work.Memory)

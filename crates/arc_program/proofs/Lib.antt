@@ -1,10 +1,16 @@
 pub mod LoadLemmas
 pub mod LineLemmas
 pub mod PrintLemmas
+pub mod Told
+pub mod StoreLemmas
 pub mod WorkLemmas
 pub mod TextLemmas
 pub mod KeptLemmas
 pub mod FlowTexts
+pub mod Certain
+pub mod Checked
+pub mod Readings
+pub mod Certified
 pub mod Extracted
 pub mod Seconds
 pub mod RunLemmas

@@ -18,7 +18,7 @@ parts : (text : List ℕ) (at end : ℕ) → at ≤ end → take at text ++ slic
 parts text at end h = let e : at + (end - at) ≡ end = omega arith in sym (take-add at (end - at) text) ∙ ap (λ (n : ℕ). take n text) e
 
 -- all of a list are its first elements
-take_all : (ys : List ℕ) (k : ℕ) → length ys ≤ k → take k ys ≡ ys
+pub take_all : (ys : List ℕ) (k : ℕ) → length ys ≤ k → take k ys ≡ ys
 take_all ys k h =
     let e : min k (length ys) ≡ length ys = omega arith in
     sym (take_min k ys) ∙ (ap (λ (n : ℕ). take n ys) e ∙ take-length ys)
@@ -36,13 +36,13 @@ part_of_part text at end k =
     let p = take_of_take (drop at text) k (end - at) in
     (at + p.0, ap (λ (ys : List ℕ). take at text ++ ys) p.1 ∙ sym (take-add at p.0 text))
 
-takes_more : (text : List ℕ) (at end : ℕ) (before mid after : Told) → at ≤ end → TakesAll (take at text) before mid → Appends {T = Unit {0}} (Ok tt) (slice_range text at end) mid after → TakesAll (take end text) before after
+pub takes_more : (text : List ℕ) (at end : ℕ) (before mid after : Told) → at ≤ end → TakesAll (take at text) before mid → Appends {T = Unit {0}} (Ok tt) (slice_range text at end) mid after → TakesAll (take end text) before after
 takes_more text at end None mid after h a p = tt
 takes_more text at end (Some old) mid after h a p =
     let q : after ≡ Some ((old ++ take at text) ++ slice_range text at end) = subst (λ (m : Told). IfSome m (λ x. after ≡ Some (x ++ slice_range text at end))) a p in
     q ∙ ap Some (append_assoc old (take at text) (slice_range text at end) ∙ ap (λ (ys : List ℕ). old ++ ys) (parts text at end h))
 
-takes_prefix : (fault : IoFault) (text : List ℕ) (at end : ℕ) (before mid after : Told) → TakesAll (take at text) before mid → Appends {T = Unit {0}} (Err fault) (slice_range text at end) mid after → TakesPrefix text before after
+pub takes_prefix : (fault : IoFault) (text : List ℕ) (at end : ℕ) (before mid after : Told) → TakesAll (take at text) before mid → Appends {T = Unit {0}} (Err fault) (slice_range text at end) mid after → TakesPrefix text before after
 takes_prefix fault text at end None mid after a p = tt
 takes_prefix Failed text at end (Some old) mid after a p =
     let q : (k : ℕ) × (after ≡ Some ((old ++ take at text) ++ take k (slice_range text at end))) = subst (λ (m : Told). IfSome m (λ x. (k : ℕ) × (after ≡ Some (x ++ take k (slice_range text at end))))) a p in
@@ -65,7 +65,7 @@ puts_on lines line before between after put one = record {
   starved = one.starved ∙ put.starved;
 }
 
-takes_none : (told : Told) → TakesAll [] told told
+pub takes_none : (told : Told) → TakesAll [] told told
 takes_none None = tt
 takes_none (Some old) = ap Some (sym (append-nil old))
 

@@ -3,22 +3,23 @@ use Rattle.std.proofs.Common.{◌≡◌, ◌⊎◌, ◌∙◌, ℕ, List, refl, 
 use Rattle.arc_num.specs.declared.TheConstants.{MAX_INSTANCE}
 use Rattle.arc_io.specs.declared.IoFault.TheVariants as io
 use Rattle.arc_program.specs.declared.refusals.Refusal.{Refusal}
-use Rattle.arc_program.specs.declared.refusals.Refusal.TheVariants.{Words, Unread, Long, BadPlace, Large, Rejected, Unwritten, Memory}
+use Rattle.arc_program.specs.declared.refusals.Refusal.TheVariants.{Words, Unread, Long, BadPlace, Large, Rejected, Unstored, Unwritten, Memory}
 use Rattle.arc_program.specs.declared.status.Status.{Status}
 use Rattle.arc_program.specs.declared.status.Status.TheVariants.{Done, Bracketed, Usage, BadInstance, BadCertificate, ReadFault as ReadFaults, WriteFault, NoMemory, TooLarge, BadSolution}
 use Rattle.command_words.specs.declared.faults.WordFault.{WordFault}
-use Rattle.command_words.specs.Requests.{Request, Compiles, Solves, Exports, Extracts}
+use Rattle.command_words.specs.Requests.{Request, certificate_of}
 use Rattle.arc_program.specs.World.{ShelfSeen, SinkSeen, World}
 use Rattle.arc_program.specs.Printing.{Line, PutsOnce}
-use Rattle.arc_program.specs.Reading.{KeepsWritten}
+use Rattle.arc_program.specs.Writing.{HasFailedToWrite, MayHaveWritten}
 use Rattle.command_words.specs.Lines.{word_fault_line}
-use Rattle.arc_program.specs.Refusals.{long_line, place_line, large_line, memory_line, refusal_line, refusal_status}
+use Rattle.arc_program.specs.Refusals.{long_line, place_line, large_line, unstored_line, memory_line, refusal_line, refusal_status}
 use Rattle.command_words.specs.Requests.{name_of}
 use Rattle.arc_program.specs.Requests.{Writes}
 use Rattle.arc_program.specs.Statuses.{IsReported}
-use Rattle.arc_program.specs.Ends.{Answers, Ends, KeepsTo, Starves, MayHaveReadAll}
+use Rattle.arc_program.specs.Ends.{Answers, Ends, KeepsTo, Starves, MayHaveDoneAll}
 use Rattle.arc_program.specs.inner.Performed.{IsPrinted, IsCut, IsRejectedRead, CarriesOut, HasNothingDone, Performs, IsSaid}
-use Rattle.arc_program.proofs.TextLemmas.{read_nothing, may_have_read, may_have_failed_at, may_have_read_second}
+use Rattle.arc_program.proofs.TextLemmas.{read_nothing, may_have_read, may_have_failed_at, may_have_read_second, may_have_stored, then_writes_so, writes_nothing}
+use Rattle.arc_program.proofs.StoreLemmas.{may_have_failed_to_write}
 use Rattle.arc_program.proofs.Seconds.{IsForSecond, for_second}
 
 -- three worlds' parts, before or after
@@ -27,7 +28,7 @@ seen shelf out err = record { shelf = shelf; out = out; err = err }
 
 -- without memory nothing is done, whatever the words ask for
 pub nothing_done : (asked : Result Request WordFault) (shelf : ShelfSeen) (out : SinkSeen) → Performs asked shelf shelf out out (Err Memory)
-nothing_done (Ok request) shelf out = (inl (read_nothing (name_of request) MAX_INSTANCE shelf), inl refl)
+nothing_done (Ok request) shelf out = (inl (inl (read_nothing (name_of request) MAX_INSTANCE shelf)), inl refl)
 nothing_done (Err fault) shelf out = (refl, refl, tt)
 
 pub nothing_done_for : (asked : Result Request WordFault) (fault : WordFault) (shelf : ShelfSeen) (out : SinkSeen) → asked ≡ Err fault → Performs asked shelf shelf out out (Err (Words fault))
@@ -37,23 +38,17 @@ pub performed : (asked : Result Request WordFault) (request : Request) (before a
 performed asked request before after old new done e carried = subst (λ (a : Result Request WordFault). Performs a before after old new done) (sym e) carried
 
 -- what is written
-writes_nothing : (request : Request) (before after : ShelfSeen) → KeepsWritten before after → Writes request before after
-writes_nothing (Compiles name mvp workers) before after keeps = keeps
-writes_nothing (Solves name mvp workers) before after keeps = keeps
-writes_nothing (Exports name mvp) before after keeps = keeps
-writes_nothing (Extracts name solution mvp) before after keeps = keeps
-
-pub keeps_to : (asked : Result Request WordFault) (request : Request) (before after : ShelfSeen) → asked ≡ Ok request → KeepsWritten before after → KeepsTo asked before after
-keeps_to asked request before after e keeps = subst (λ (a : Result Request WordFault). KeepsTo a before after) (sym e) (writes_nothing request before after keeps)
+pub keeps_to : (asked : Result Request WordFault) (request : Request) (before after : ShelfSeen) → asked ≡ Ok request → Writes request before after → KeepsTo asked before after
+keeps_to asked request before after e writes = subst (λ (a : Result Request WordFault). KeepsTo a before after) (sym e) writes
 
 pub keeps_all : (asked : Result Request WordFault) (shelf : ShelfSeen) → KeepsTo asked shelf shelf
-keeps_all (Ok request) shelf = writes_nothing request shelf shelf (record { held = refl; written = refl; created = refl; writing = refl; faults = refl })
+keeps_all (Ok request) shelf = writes_nothing (certificate_of request) shelf shelf (record { held = refl; written = refl; created = refl; writing = refl; faults = refl })
 keeps_all (Err fault) shelf = refl
 
 -- a run that printed its report
 printed_ends : (request : Request) (before after : ShelfSeen) (old new err : SinkSeen) (status : Status) → IsReported status → IsPrinted request before after old new status → Answers request (seen before old err) (seen after new err) status
-printed_ends request before after old new err Done r p = record { text = p.text; owed = p.owed; shelf = p.shelf; printed = p.printed; silent = refl }
-printed_ends request before after old new err Bracketed r p = record { text = p.text; owed = p.owed; shelf = p.shelf; printed = p.printed; silent = refl }
+printed_ends request before after old new err Done r p = record { text = p.text; certificate = p.certificate; owed = p.owed; shelf = p.shelf; printed = p.printed; silent = refl }
+printed_ends request before after old new err Bracketed r p = record { text = p.text; certificate = p.certificate; owed = p.owed; shelf = p.shelf; printed = p.printed; silent = refl }
 printed_ends request before after old new err Usage r p = absurd r
 printed_ends request before after old new err BadInstance r p = absurd r
 printed_ends request before after old new err BadCertificate r p = absurd r
@@ -69,7 +64,7 @@ ends_reported (Err fault) before after old new err status done = absurd done.2
 
 -- a run that refuses
 module _ (request : Request) (before after : ShelfSeen) (old new e0 e1 : SinkSeen) where
-  lacks : MayHaveReadAll request before after → new ≡ old → PutsOnce memory_line e0 e1 → Answers request (seen before old e0) (seen after new e1) NoMemory
+  lacks : MayHaveDoneAll request before after → new ≡ old → PutsOnce memory_line e0 e1 → Answers request (seen before old e0) (seen after new e1) NoMemory
   lacks read same said = record { shelf = read; printed = inl same; said = said }
 
   starved : CarriesOut request before after old new (Err Memory) → PutsOnce memory_line e0 e1 → Answers request (seen before old e0) (seen after new e1) NoMemory
@@ -77,16 +72,21 @@ module _ (request : Request) (before after : ShelfSeen) (old new e0 e1 : SinkSee
     where
       cut : (new ≡ old) ⊎ IsCut io.Memory request before after old new → (new ≡ old) ⊎ Starves request (seen before old e0) (seen after new e1)
       cut (inl same) = inl same
-      cut (inr c) = inr (record { text = c.text; status = c.status; owed = c.owed; shelf = c.shelf; printed = c.printed })
+      cut (inr c) = inr (record { text = c.text; status = c.status; certificate = c.certificate; owed = c.owed; shelf = c.shelf; printed = c.printed })
 
   -- no memory was left for the line of a refusal
   unsaid_ends : (refusal : Refusal) (status : Status) → CarriesOut request before after old new (Err refusal) → refusal_status refusal ≡ status → PutsOnce memory_line e0 e1 → (refusal ≡ Unwritten → ⊥) → Answers request (seen before old e0) (seen after new e1) NoMemory
   unsaid_ends (Words fault) status done is said not = absurd done
-  unsaid_ends (Unread name) status done is said not = lacks (may_have_failed_at request (string_bytes name) before after done.0) done.1 said
-  unsaid_ends (Long name) status done is said not = lacks (inl (may_have_read (name_of request) MAX_INSTANCE before after done.2)) done.3 said
-  unsaid_ends (BadPlace name fault) status done is said not = lacks (inl (may_have_read (name_of request) MAX_INSTANCE before after done.2)) done.3 said
-  unsaid_ends (Large name t) status done is said not = lacks (inl (may_have_read (name_of request) MAX_INSTANCE before after done.2)) done.3 said
-  unsaid_ends (Rejected line refused) status done is said not = lacks (may_have_read_second request done.0.text before after done.0.shelf) done.1 said
+  unsaid_ends (Unread name) status done is said not = lacks (inl (may_have_failed_at request (string_bytes name) before after done.0)) done.1 said
+  unsaid_ends (Long name) status done is said not = lacks (inl (inl (may_have_read (name_of request) MAX_INSTANCE before after done.2))) done.3 said
+  unsaid_ends (BadPlace name fault) status done is said not = lacks (inl (inl (may_have_read (name_of request) MAX_INSTANCE before after done.2))) done.3 said
+  unsaid_ends (Large name t) status done is said not = lacks (inl (inl (may_have_read (name_of request) MAX_INSTANCE before after done.2))) done.3 said
+  unsaid_ends (Rejected line refused) status done is said not = lacks (inl (may_have_read_second request done.0.text before after done.0.shelf)) done.1 said
+  unsaid_ends (Unstored name) status done is said not =
+      lacks
+      (may_have_stored request done.0.status done.0.text done.0.certificate before after done.0.owed
+      (then_writes_so request done.0.certificate HasFailedToWrite MayHaveWritten before after (λ name bytes between. may_have_failed_to_write name bytes between after) done.0.shelf))
+      done.1 said
   unsaid_ends Unwritten status done is said not = absurd (not refl)
   unsaid_ends Memory status done is said not = starved done said
 
@@ -132,7 +132,16 @@ module _ (request : Request) (before after : ShelfSeen) (old new e0 e1 : SinkSee
     said = subst (λ (n : List ℕ). PutsOnce (large_line n t) e0 e1) done.0 said;
   }
   said_ends (Rejected line status) done said = second_ends line status (subst IsForSecond done.0.refused (for_second request done.0.text done.0.shelf.second)) done.0 done.1 said
-  said_ends Unwritten done said = record { text = done.text; status = done.status; owed = done.owed; shelf = done.shelf; printed = done.printed; said = said }
+  said_ends (Unstored name) done said = inl (record {
+    text = done.0.text;
+    status = done.0.status;
+    certificate = done.0.certificate;
+    owed = done.0.owed;
+    shelf = done.0.shelf;
+    unprinted = done.1;
+    said = subst (λ (n : List ℕ). PutsOnce (unstored_line n) e0 e1) done.0.named said;
+  })
+  said_ends Unwritten done said = inr (record { text = done.text; status = done.status; certificate = done.certificate; owed = done.owed; shelf = done.shelf; printed = done.printed; said = said })
   said_ends Memory done said = starved done said
 
   said_or_not : (refusal : Refusal) (status : Status) → CarriesOut request before after old new (Err refusal) → (refusal ≡ Unwritten → status ≡ WriteFault) → IsSaid refusal status e0 e1 → Answers request (seen before old e0) (seen after new e1) status
@@ -150,6 +159,7 @@ words_end fault shelf out e0 e1 (Long name) status done (inl s) = absurd done
 words_end fault shelf out e0 e1 (BadPlace name place) status done (inl s) = absurd done
 words_end fault shelf out e0 e1 (Large name t) status done (inl s) = absurd done
 words_end fault shelf out e0 e1 (Rejected line refused) status done (inl s) = absurd done
+words_end fault shelf out e0 e1 (Unstored name) status done (inl s) = absurd done
 words_end fault shelf out e0 e1 Unwritten status done (inl s) = absurd done
 words_end fault shelf out e0 e1 Memory status done (inl s) = inr s
 

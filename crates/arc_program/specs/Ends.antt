@@ -13,27 +13,31 @@ use Rattle.arc_program.specs.declared.status.Status.TheVariants.{Done, Bracketed
 use Rattle.command_words.specs.Requests.{Request}
 use Rattle.arc_program.specs.World.{ShelfSeen, World}
 use Rattle.arc_program.specs.Reading.{HasRead, HasFailed, MayHaveRead}
-use Rattle.arc_program.specs.Texts.{TextValue, second_text, second_held, ThenReads, HasReadAll}
+use Rattle.arc_program.specs.Texts.{TextValue, second_text, second_held, ThenReads, ReadsRefused}
+use Rattle.arc_program.specs.Writing.{HasFailedToWrite, MayHaveWritten, WriteRose}
+use Rattle.arc_program.specs.Stored.{ThenWrites, HasDoneAll}
 use Rattle.arc_program.specs.Printing.{Line, PutsOnce, PutsText, CutsOff}
 use Rattle.command_words.specs.Lines.{word_fault_line}
-use Rattle.arc_program.specs.Refusals.{unread_line, long_line, place_line, large_line, output_line, memory_line}
-use Rattle.command_words.specs.Requests.{name_of, MakesGraphs}
+use Rattle.arc_program.specs.Refusals.{unread_line, long_line, place_line, large_line, unstored_line, output_line, memory_line}
+use Rattle.command_words.specs.Requests.{name_of, certificate_of, MakesGraphs}
 use Rattle.arc_program.specs.Requests.{Writes, IsRead, IsLong, IsBadAt, IsRefused, IsLargeAt, IsGood}
 use Rattle.arc_program.specs.Statuses.{IsReported}
-use Rattle.arc_program.specs.commands.{IsReport, IsRejection, IsFit}
+use Rattle.arc_program.specs.commands.{IsReport, IsRejection, IsFit, StopsUndecided, IsBeside}
 
--- the text is a report that is owed for the instance under the name that is asked about, and for the second text; and this is the
--- status of a run that prints it
-pub record IsOwed (request : Request) (shelf : ShelfSeen) (status : Status) (text : List ℕ) : Type 0 where
+-- the text is a report that is owed for the instance under the name that is asked about, and for the second text; this is the
+-- status of a run that prints it, and the certificate is what is to be written beside it
+pub record IsOwed (request : Request) (shelf : ShelfSeen) (status : Status) (text : List ℕ) (certificate : Option (List ℕ)) : Type 0 where
   pub instance : InstanceValue
   pub read : IsRead request shelf.held instance
   pub report : IsReport request (second_held request shelf.held) instance status text
+  pub beside : IsBeside (certificate_of request) request instance text certificate
 
--- the report was taken whole, and nothing was said
+-- the certificate was written, where one is asked for, the report was taken whole, and nothing was said
 pub record Reports (request : Request) (before after : World) (status : Status) : Type 0 where
   pub text : List ℕ
-  pub owed : IsOwed request before.shelf status text
-  pub shelf : HasReadAll request before.shelf after.shelf
+  pub certificate : Option (List ℕ)
+  pub owed : IsOwed request before.shelf status text certificate
+  pub shelf : HasDoneAll request certificate before.shelf after.shelf
   pub printed : PutsText text before.out after.out
   pub silent : after.err ≡ before.err
 
@@ -75,15 +79,22 @@ pub record RefusesSecond (request : Request) (before after : World) (status : St
   pub refused : text.refused ≡ status
   pub line : Line
   pub owed : IsOwedRejection request text before.shelf line
-  pub shelf : ThenReads request text HasRead before.shelf after.shelf
+  pub shelf : ThenReads request text (ReadsRefused request) before.shelf after.shelf
   pub unprinted : after.out ≡ before.out
   pub said : PutsOnce line before.err after.err
+
+-- the instance was read, and a read of the second text failed, before what was taken of this text decided anything
+pub record FailsSecond (request : Request) (text : TextValue) (before after : ShelfSeen) : Type 0 where
+  pub instance : InstanceValue
+  pub read : IsRead request before.held instance
+  pub reads : ThenReads request text HasFailed before after
+  pub undecided : StopsUndecided request instance (before.held text.name) reads.between after
 
 -- a read of the text under this name failed: of the instance, or of the second text behind it
 abbrev pub FailsAt : Request → List ℕ → ShelfSeen → ShelfSeen → Type 0
 FailsAt request name before after =
     ((name ≡ name_of request) × HasFailed (name_of request) MAX_INSTANCE before after)
-    ⊎ ((text : TextValue) × (name ≡ text.name) × ThenReads request text HasFailed before after)
+    ⊎ ((text : TextValue) × (name ≡ text.name) × FailsSecond request text before after)
 
 -- a read failed; nothing was printed, and the name that could not be read was said
 pub record CannotRead (request : Request) (before after : World) : Type 0 where
@@ -92,21 +103,37 @@ pub record CannotRead (request : Request) (before after : World) : Type 0 where
   pub unprinted : after.out ≡ before.out
   pub said : PutsOnce (unread_line name) before.err after.err
 
--- the report was cut off by a put of `out` that failed, and that was said
-pub record CannotWrite (request : Request) (before after : World) : Type 0 where
+-- the certificate could not be written; nothing was printed, and its name was said
+pub record CannotStore (request : Request) (before after : World) : Type 0 where
   pub text : List ℕ
   pub status : Status
-  pub owed : IsOwed request before.shelf status text
-  pub shelf : HasReadAll request before.shelf after.shelf
+  pub certificate : Option (List ℕ)
+  pub owed : IsOwed request before.shelf status text certificate
+  pub shelf : ThenWrites request certificate HasFailedToWrite before.shelf after.shelf
+  pub unprinted : after.out ≡ before.out
+  pub said : PutsOnce (unstored_line shelf.name) before.err after.err
+
+-- the report was cut off by a put of `out` that failed, and that was said
+pub record CannotPrint (request : Request) (before after : World) : Type 0 where
+  pub text : List ℕ
+  pub status : Status
+  pub certificate : Option (List ℕ)
+  pub owed : IsOwed request before.shelf status text certificate
+  pub shelf : HasDoneAll request certificate before.shelf after.shelf
   pub printed : CutsOff io.Failed text before.out after.out
   pub said : PutsOnce output_line before.err after.err
+
+-- the certificate or the report could not be written
+abbrev pub CannotWrite : Request → World → World → Type 0
+CannotWrite request before after = CannotStore request before after ⊎ CannotPrint request before after
 
 -- the report was cut off by a put of `out` that found no memory
 pub record Starves (request : Request) (before after : World) : Type 0 where
   pub text : List ℕ
   pub status : Status
-  pub owed : IsOwed request before.shelf status text
-  pub shelf : HasReadAll request before.shelf after.shelf
+  pub certificate : Option (List ℕ)
+  pub owed : IsOwed request before.shelf status text certificate
+  pub shelf : HasDoneAll request certificate before.shelf after.shelf
   pub printed : CutsOff io.Memory text before.out after.out
 
 -- the instance may have been read, or it was, and the second text may have been
@@ -115,9 +142,21 @@ MayHaveReadAll request before after =
     MayHaveRead (name_of request) MAX_INSTANCE before after
     ⊎ ((text : TextValue) × ThenReads request text MayHaveRead before after)
 
+-- all texts were read, and some of the certificate that is owed was written, maybe none
+pub record MayHaveStored (request : Request) (before after : ShelfSeen) : Type 0 where
+  pub text : List ℕ
+  pub status : Status
+  pub certificate : Option (List ℕ)
+  pub owed : IsOwed request before status text certificate
+  pub shelf : ThenWrites request certificate MayHaveWritten before after
+
+-- the texts may have been read, and the certificate may have been written
+abbrev pub MayHaveDoneAll : Request → ShelfSeen → ShelfSeen → Type 0
+MayHaveDoneAll request before after = MayHaveReadAll request before after ⊎ MayHaveStored request before after
+
 -- memory was wanting, and that was said; nothing was printed, but where `out` itself found none
 pub record LacksMemory (request : Request) (before after : World) : Type 0 where
-  pub shelf : MayHaveReadAll request before.shelf after.shelf
+  pub shelf : MayHaveDoneAll request before.shelf after.shelf
   pub printed : (after.out ≡ before.out) ⊎ Starves request before after
   pub said : PutsOnce memory_line before.err after.err
 
@@ -168,7 +207,7 @@ pub record MustEnd (request : Request) (bytes : List ℕ) (before after : World)
   pub refused : IsRefused request bytes → ComesOut BadInstance status
   pub large : (t : ℕ) → MakesGraphs request → IsLargeAt request t bytes → ComesOut TooLarge status
   pub rejected : (I : InstanceValue) (text : TextValue) → second_text request ≡ Some text → IsGood request bytes I → IsRejected request (before.shelf.held text.name) I → ComesOut text.refused status
-  pub accepted : (I : InstanceValue) → IsGood request bytes I → HasFit request before.shelf.held I (second_text request) → ¬ Rose before.shelf.read_faults after.shelf.read_faults → ¬ Rose before.out.faults after.out.faults → IsReported status ⊎ (status ≡ NoMemory)
+  pub accepted : (I : InstanceValue) → IsGood request bytes I → HasFit request before.shelf.held I (second_text request) → ¬ Rose before.shelf.read_faults after.shelf.read_faults → ¬ WriteRose (certificate_of request) before.shelf after.shelf → ¬ Rose before.out.faults after.out.faults → IsReported status ⊎ (status ≡ NoMemory)
 
 -- each cause is seen: a fault of the words, and where the bytes under the name are told, theirs; nothing else comes where they spell an
 -- instance and nothing failed

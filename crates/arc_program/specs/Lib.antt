@@ -1,6 +1,8 @@
 pub mod World
 pub mod Reading
 pub mod Texts
+pub mod Writing
+pub mod Stored
 pub mod Printing
 pub mod Reports
 pub mod Refusals
@@ -8,6 +10,7 @@ pub mod Statuses
 pub mod Requests
 pub mod Kept
 pub mod Rejections
+pub mod Verdicts
 pub mod commands
 pub mod Ends
 pub mod inner

@@ -17,6 +17,12 @@ pub record HasRead (name : List ℕ) (most : ℕ) (before after : ShelfSeen) : T
   pub taken : TakesFirst name most before after
   pub faults : after.read_faults ≡ before.read_faults
 
+-- the name was asked for last, and not too many bytes were taken; a read behind them may have failed
+pub record HasTaken (name : List ℕ) (most : ℕ) (before after : ShelfSeen) : Type 0 where
+  pub asked : IfSome before.asked (λ _. after.asked ≡ Some name)
+  pub taken : TakesFirst name most before after
+  pub faults : (after.read_faults ≡ before.read_faults) ⊎ Rose before.read_faults after.read_faults
+
 -- the name was asked for last, and a read failed
 pub record HasFailed (name : List ℕ) (most : ℕ) (before after : ShelfSeen) : Type 0 where
   pub asked : IfSome before.asked (λ _. after.asked ≡ Some name)

@@ -4,7 +4,7 @@ use Rattle.packing_laws.specs.declared.fault.ReadFault.{ReadFault}
 use Rattle.packing_laws.specs.declared.fault.ReadFault.TheVariants as read
 use Rattle.command_words.specs.Lines.{word_fault_line}
 use Rattle.arc_program.specs.declared.refusals.Refusal.{Refusal}
-use Rattle.arc_program.specs.declared.refusals.Refusal.TheVariants.{Words, Unread, Long, BadPlace, Large, Rejected, Unwritten, Memory}
+use Rattle.arc_program.specs.declared.refusals.Refusal.TheVariants.{Words, Unread, Long, BadPlace, Large, Rejected, Unstored, Unwritten, Memory}
 use Rattle.arc_program.specs.declared.status.Status.{Status}
 use Rattle.arc_program.specs.declared.status.Status.TheVariants.{Usage, BadInstance, ReadFault as ReadFaults, WriteFault, NoMemory, TooLarge}
 
@@ -40,6 +40,10 @@ output_line = codes "vpack: cannot write output\n"
 abbrev pub unread_line : List ℕ → List ℕ
 unread_line name = codes "vpack: cannot read " ++ name ++ codes "\n"
 
+-- the line on a certificate that could not be written
+abbrev pub unstored_line : List ℕ → List ℕ
+unstored_line name = codes "vpack: cannot write " ++ name ++ codes "\n"
+
 -- the line on an instance that is too long
 abbrev pub long_line : List ℕ → List ℕ
 long_line name = named_line name (codes "too long")
@@ -56,6 +60,7 @@ refusal_line (Long name) = long_line (string_bytes name)
 refusal_line (BadPlace name fault) = place_line (string_bytes name) fault
 refusal_line (Large name t) = large_line (string_bytes name) t
 refusal_line (Rejected line status) = line
+refusal_line (Unstored name) = unstored_line (string_bytes name)
 refusal_line Unwritten = output_line
 refusal_line Memory = memory_line
 
@@ -67,5 +72,6 @@ refusal_status (Long name) = BadInstance
 refusal_status (BadPlace name fault) = BadInstance
 refusal_status (Large name t) = TooLarge
 refusal_status (Rejected line status) = status
+refusal_status (Unstored name) = WriteFault
 refusal_status Unwritten = WriteFault
 refusal_status Memory = NoMemory

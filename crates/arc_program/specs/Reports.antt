@@ -5,6 +5,9 @@ use Rattle.packing_laws.specs.declared.packings.Count.{Count}
 use Rattle.packing_laws.specs.declared.packings.Bin.{Bin}
 use Rattle.packing_laws.specs.Instances.{InstanceValue, units_of}
 use Rattle.arc_compile.specs.declared.results.TypeSize.{TypeSize}
+use Rattle.bound_certificates.specs.declared.found.BoundKind.{BoundKind}
+use Rattle.bound_certificates.specs.declared.found.BoundKind.TheVariants.{Step, Material}
+use Rattle.bound_certificates.specs.declared.found.FoundBound.{FoundBound}
 use Rattle.arc_program.specs.declared.answers.Answer.{Answer}
 use Rattle.arc_program.specs.declared.answers.Answer.TheVariants.{Optimal, Bracket, Unpacked, Infeasible}
 
@@ -49,6 +52,15 @@ packing_line cost = codes "packing " ++ decimal cost ++ codes "\n"
 -- the report on a packing of this cost
 abbrev pub packing_text : ℕ → List Bin → List ℕ
 packing_text cost bins = packing_line cost ++ bins_text bins
+
+-- where a bound comes from
+abbrev pub kind_text : BoundKind → List ℕ
+kind_text (Step dim step) = codes " step " ++ decimal dim ++ codes " " ++ decimal step
+kind_text Material = codes " material"
+
+-- the report on a bound
+abbrev pub bound_text : FoundBound → List ℕ
+bound_text found = codes "bound " ++ decimal found.bound ++ kind_text found.kind ++ codes "\n"
 
 -- the first line of the report on graphs, in two parts
 abbrev pub dims_and_types : InstanceValue → List ℕ

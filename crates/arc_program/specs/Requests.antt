@@ -7,9 +7,9 @@ use Rattle.packing_laws.specs.declared.fault.ReadFault.{ReadFault}
 use Rattle.packing_laws.specs.Instances.{InstanceValue, IsInstance}
 use Rattle.packing_laws.specs.Layouts as layouts
 use Rattle.packing_laws.specs.Layouts.{Layout, Vbp, Mvp}
-use Rattle.command_words.specs.Requests.{Request, Compiles, Solves, Exports, Extracts, name_of, is_mvp_of, MakesGraphs}
+use Rattle.command_words.specs.Requests.{Request, name_of, is_mvp_of, MakesGraphs, certificate_of}
 use Rattle.arc_program.specs.World.{ShelfSeen}
-use Rattle.arc_program.specs.Reading.{KeepsWritten}
+use Rattle.arc_program.specs.Writing.{WritesUnder}
 
 abbrev pub layout_for : Bool → Layout
 layout_for true = Mvp
@@ -19,12 +19,9 @@ layout_for false = Vbp
 abbrev pub layout_of : Request → Layout
 layout_of request = layout_for (is_mvp_of request)
 
--- what is written on the shelf: nothing is asked for there
+-- what is written on the shelf: nothing, but under the name of the certificate, where one is asked for
 abbrev pub Writes : Request → ShelfSeen → ShelfSeen → Type 0
-Writes (Compiles name mvp workers) before after = KeepsWritten before after
-Writes (Solves name mvp workers) before after = KeepsWritten before after
-Writes (Exports name mvp) before after = KeepsWritten before after
-Writes (Extracts name solution mvp) before after = KeepsWritten before after
+Writes request before after = WritesUnder (certificate_of request) before after
 
 -- the bytes spell the instance, and are not too many
 abbrev pub IsAccepted : Request → List ℕ → InstanceValue → Type 0

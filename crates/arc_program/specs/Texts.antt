@@ -1,12 +1,12 @@
 -- The texts that a request reads: its instance, and for some requests a second one behind it.
 use Rattle.std.specs.Prelude.{◌≡◌, ℕ, Option, Some, None, List}
-use Rattle.arc_num.specs.declared.TheConstants.{MAX_INSTANCE}
+use Rattle.arc_num.specs.declared.TheConstants.{MAX_CERT, MAX_INSTANCE}
 use Rattle.arc_io.specs.Bytes.{Told, Files}
-use Rattle.command_words.specs.Requests.{Request, Compiles, Solves, Exports, Extracts, name_of}
+use Rattle.command_words.specs.Requests.{Request, Compiles, Solves, Checks, Exports, Extracts, Bounds, name_of}
 use Rattle.arc_program.specs.declared.status.Status.{Status}
-use Rattle.arc_program.specs.declared.status.Status.TheVariants.{BadSolution}
+use Rattle.arc_program.specs.declared.status.Status.TheVariants.{BadCertificate, BadSolution}
 use Rattle.arc_program.specs.World.{ShelfSeen}
-use Rattle.arc_program.specs.Reading.{HasRead, KeepsWritten}
+use Rattle.arc_program.specs.Reading.{HasRead, HasTaken, KeepsWritten}
 
 -- a second text: its name, how many bytes it may have, and the status of a run that refuses it
 pub record TextValue : Type 0 where
@@ -18,8 +18,10 @@ pub record TextValue : Type 0 where
 abbrev pub second_text : Request → Option TextValue
 second_text (Compiles name mvp workers) = None
 second_text (Solves name mvp workers) = None
+second_text (Checks name certificate mvp workers) = Some (record { name = certificate; most = MAX_CERT; refused = BadCertificate })
 second_text (Exports name mvp) = None
 second_text (Extracts name solution mvp) = Some (record { name = solution; most = MAX_INSTANCE; refused = BadSolution })
+second_text (Bounds name mvp certificate) = None
 
 -- what is held under the name of a text, where it is told
 abbrev pub held_at : Files → Option TextValue → Told
@@ -37,6 +39,15 @@ pub record ThenReads (request : Request) (text : TextValue) (how : List ℕ → 
   pub read : HasRead (name_of request) MAX_INSTANCE before between
   pub keeps : KeepsWritten before between
   pub goes : how text.name text.most between after
+
+-- how a second text was read that is refused: no read failed, but that of a certificate one may have, behind the line at fault
+abbrev pub ReadsRefused : Request → List ℕ → ℕ → ShelfSeen → ShelfSeen → Type 0
+ReadsRefused (Compiles name mvp workers) text most before after = HasRead text most before after
+ReadsRefused (Solves name mvp workers) text most before after = HasRead text most before after
+ReadsRefused (Checks name certificate mvp workers) text most before after = HasTaken text most before after
+ReadsRefused (Exports name mvp) text most before after = HasRead text most before after
+ReadsRefused (Extracts name solution mvp) text most before after = HasRead text most before after
+ReadsRefused (Bounds name mvp certificate) text most before after = HasRead text most before after
 
 abbrev pub HasReadTo : Request → Option TextValue → ShelfSeen → ShelfSeen → Type 0
 HasReadTo request None before after = HasRead (name_of request) MAX_INSTANCE before after

@@ -5,3 +5,5 @@ pub mod Printing
 pub mod Work
 pub mod Performed
 pub mod Extracting
+pub mod Checking
+pub mod Storing

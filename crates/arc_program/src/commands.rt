@@ -5,6 +5,8 @@ ghost use Rattle.arc_program.specs.World.{shelf_seen};
 ghost use Rattle.arc_program.specs.Reading.{KeepsWritten};
 ghost use Rattle.arc_program.specs.inner.Work.{Works};
 
+mod bound;
+mod check;
 mod compile;
 mod export;
 mod extract;
@@ -21,11 +23,12 @@ use std::alloc::Global;
 use std::thread::Threads;
 use thiserror::Error;
 
-/// A report, and the status of a run that prints it.
+/// A report, the status of a run that prints it, and the certificate that is to be written before, where one is asked for.
 #[derive(Debug, Drop)]
 pub struct Report {
     pub text: Text,
     pub status: Status,
+    pub certificate: Option<Text>,
 }
 
 /// Why there is no report on an instance.
@@ -88,5 +91,9 @@ pub fn work_on<R: Threads + Sync, H: Shelf>(
         Command::Extract { solution, .. } => {
             extract::report(rt, alloc, instance, solution.as_str(), shelf)
         }
+        Command::Check { cert, workers, .. } => {
+            check::report(rt, alloc, instance, cert.as_str(), *workers, shelf)
+        }
+        Command::Bound { cert, .. } => Ok(bound::report(alloc, instance, cert.is_some())?),
     }
 }

@@ -4,6 +4,7 @@
 mod answers;
 mod commands;
 mod inputs;
+mod judging;
 mod kept;
 mod loading;
 mod performing;
@@ -15,6 +16,8 @@ mod runs;
 mod status;
 #[cfg(test)]
 mod tests;
+mod verdicts;
+mod writing;
 
 pub use answers::Answer;
 pub use command_words::{Command, WordFault, read_words};
@@ -22,3 +25,4 @@ pub use refusals::Refusal;
 pub use reports::{compile_text, solve_text};
 pub use runs::run;
 pub use status::Status;
+pub use verdicts::check_text;

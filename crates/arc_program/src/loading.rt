@@ -14,7 +14,7 @@ use thiserror::Error;
 pub type Text = Listed<u8>;
 
 /// How many bytes are read at once, at most.
-const PIECE: usize = 65_536;
+pub const PIECE: usize = 65_536;
 
 /// Why a text was not read.
 #[derive(Clone, Copy, Debug, PartialEq, Eq, Error)]
@@ -83,7 +83,8 @@ fn read_rest<H: Shelf>(shelf: &mut H, space: &mut [u8], text: &mut Vec<u8>) -> R
     Err(LoadFault::Long)
 }
 
-fn buffer_of(alloc: Global, size: usize) -> Result<Vec<u8>, LoadFault>
+/// So many bytes, all 0.
+pub fn buffer_of(alloc: Global, size: usize) -> Result<Vec<u8>, LoadFault>
     ensures { MatchResult result (λ buffer. vec_len buffer ≡ size) (λ fault. fault ≡ LoadFault.Memory) }
 {
     match vec![in alloc; 0u8; size] {

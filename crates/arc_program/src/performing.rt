@@ -8,18 +8,20 @@ ghost use Rattle.command_words.specs.Requests.{Request, words_of, request_of};
 ghost use Rattle.command_words.specs.Faults.{FaultIs};
 ghost use Rattle.arc_program.specs.World.{ShelfSeen, SinkSeen, shelf_seen, sink_seen};
 ghost use Rattle.command_words.specs.Requests.{name_of, HasWorkers};
-ghost use Rattle.arc_program.specs.Requests.{IsRead};
+ghost use Rattle.arc_program.specs.Requests.{IsRead, Writes};
 ghost use Rattle.arc_program.specs.Reading.{HasRead, KeepsWritten};
 ghost use Rattle.arc_program.specs.Ends.{KeepsTo};
 ghost use Rattle.arc_program.specs.inner.Inputs.{IsInput};
 ghost use Rattle.arc_program.specs.inner.Work.{Works};
 ghost use Rattle.arc_program.specs.inner.Performed.{CarriesOut, Performs};
+ghost use Rattle.arc_program.specs.inner.Storing.{refusal_of};
 
 use crate::commands::{WorkFault, work_on};
 use crate::inputs::{InputFault, load_instance};
 use crate::printing::put_lines;
 use crate::refusals::Refusal;
 use crate::status::Status;
+use crate::writing::{StoreFault, store};
 use arc_io::{IoFault, Shelf, Sink};
 use command_words::{Command, WordFault, read_words};
 use std::alloc::Global;
@@ -59,7 +61,18 @@ fn work_refusal(name: String, fault: WorkFault) -> Refusal
     }
 }
 
-/// Reads the texts that a command names, and prints its report.
+/// The refusal that a fault of writing a certificate is.
+fn store_refusal(fault: StoreFault) -> Refusal
+    ensures { result ≡ refusal_of fault }
+{
+    match fault {
+        StoreFault::Failed { name } => Refusal::Unstored { name },
+        StoreFault::Memory => Refusal::Memory,
+    }
+}
+
+/// Reads the texts that a command names, writes the certificate of its report, where one is asked for, and then prints the
+/// report.
 fn carry_out<R: Threads + Sync, H: Shelf, K: Sink>(
     rt: &R,
     alloc: Global,
@@ -69,7 +82,7 @@ fn carry_out<R: Threads + Sync, H: Shelf, K: Sink>(
 ) -> Result<Status, Refusal>
     requires { HasWorkers (request_of command) }
     ensures done { CarriesOut (request_of command) (shelf_seen H.Shelf shelf.old) (shelf_seen H.Shelf shelf.new) (sink_seen K.Sink out.old) (sink_seen K.Sink out.new) result }
-    ensures writes { KeepsWritten (shelf_seen H.Shelf shelf.old) (shelf_seen H.Shelf shelf.new) }
+    ensures writes { Writes (request_of command) (shelf_seen H.Shelf shelf.old) (shelf_seen H.Shelf shelf.new) }
 {
     let instance = match load_instance(alloc, shelf, &command) {
         Ok(instance) => instance,
@@ -79,6 +92,10 @@ fn carry_out<R: Threads + Sync, H: Shelf, K: Sink>(
         Ok(report) => report,
         Err(fault) => return Err(work_refusal(command.into_name(), fault)),
     };
+    match store(shelf, command.into_certificate(), &report.certificate) {
+        Ok(()) => {}
+        Err(fault) => return Err(store_refusal(fault)),
+    }
     match put_lines(out, report.text.as_slice()) {
         Ok(()) => Ok(report.status),
         Err(IoFault::Failed) => Err(Refusal::Unwritten),

@@ -16,7 +16,7 @@ fn first_feed(bytes: &[u8]) -> Option<usize>
 }
 
 /// Where the line that begins at `from` ends: behind its line feed, or at the end of the text.
-fn line_end(text: &[u8], from: usize) -> usize
+pub fn line_end(text: &[u8], from: usize) -> usize
     requires { from < length text.now }
     ensures after { from < result }
     ensures within { result ≤ length text.now }

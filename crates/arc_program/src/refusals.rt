@@ -2,7 +2,7 @@
 
 ghost use Rattle.std.specs.Prelude.{◌≡◌, ◌++◌, IfOk, string_bytes, codes};
 ghost use Rattle.command_words.specs.Lines.{word_fault_line};
-ghost use Rattle.arc_program.specs.Refusals.{token_line, place_line, refusal_line, refusal_status, named_line, no_weight, large_line};
+ghost use Rattle.arc_program.specs.Refusals.{token_line, place_line, refusal_line, refusal_status, unstored_line, named_line, no_weight, large_line};
 
 use crate::loading::Text;
 use crate::status::Status;
@@ -26,6 +26,8 @@ pub enum Refusal {
     Large { name: String, t: u32 },
     /// The second text is refused: the line that says why, and the status.
     Rejected { line: Text, status: Status },
+    /// The certificate could not be written under this name.
+    Unstored { name: String },
     /// The report could not be written.
     Unwritten,
     /// Want of memory.
@@ -87,6 +89,12 @@ fn unread_text(alloc: Global, name: &str) -> Result<String, AllocError>
     format!(in alloc; "vpack: cannot read {name}\n")
 }
 
+fn unstored_text(alloc: Global, name: &str) -> Result<String, AllocError>
+    ensures { IfOk result (λ line. string_bytes line ≡ unstored_line name.now) }
+{
+    format!(in alloc; "vpack: cannot write {name}\n")
+}
+
 /// The line on a text under this name that is too long.
 pub fn long_text(alloc: Global, name: &str) -> Result<String, AllocError>
     ensures { IfOk result (λ line. string_bytes line ≡ named_line name.now (codes "too long")) }
@@ -118,6 +126,7 @@ pub fn refusal_text(alloc: Global, refusal: &Refusal) -> Result<Vec<u8>, Memory>
         Refusal::BadPlace { name, fault } => place_text(alloc, name.as_str(), *fault)?,
         Refusal::Large { name, t } => large_text(alloc, name.as_str(), *t)?,
         Refusal::Rejected { line, .. } => return copied(alloc, line.as_slice()),
+        Refusal::Unstored { name } => unstored_text(alloc, name.as_str())?,
         Refusal::Unwritten => String::from_str(alloc, "vpack: cannot write output\n")?,
         Refusal::Memory => String::from_str(alloc, "vpack: out of memory\n")?,
     };
@@ -136,6 +145,7 @@ impl Refusal {
             Refusal::BadPlace { .. } => Status::BadInstance,
             Refusal::Large { .. } => Status::TooLarge,
             Refusal::Rejected { status, .. } => *status,
+            Refusal::Unstored { .. } => Status::WriteFault,
             Refusal::Unwritten => Status::WriteFault,
             Refusal::Memory => Status::NoMemory,
         }

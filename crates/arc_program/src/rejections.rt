@@ -24,7 +24,8 @@ pub fn named_line(alloc: Global, name: &str, said: &[u8]) -> Result<Vec<u8>, Mem
     Ok(line)
 }
 
-fn line_said(alloc: Global, line: u64, cause: &[u8]) -> Result<Vec<u8>, Memory>
+/// What is said of a line of a text, by its number.
+pub fn line_said(alloc: Global, line: u64, cause: &[u8]) -> Result<Vec<u8>, Memory>
     ensures { IfOk result (λ said. said.items ≡ line_said line cause.now) }
 {
     let mut said = Vec::new(alloc);

@@ -1,12 +1,13 @@
 //! The texts of reports.
 
 ghost use Rattle.std.specs.Prelude.{◌≡◌, ◌++◌, OnOk, IfOk, length};
-ghost use Rattle.arc_program.specs.Reports.{count_text, counts_text, bin_text, bins_text, bins_in, first_line, answer_text, dims_and_types, items_and_units, size_text, type_and_level, main_and_final, type_lines, arcs_line, graphs_text};
+ghost use Rattle.arc_program.specs.Reports.{count_text, counts_text, bin_text, bins_text, bins_in, first_line, answer_text, kind_text, bound_text, dims_and_types, items_and_units, size_text, type_and_level, main_and_final, type_lines, arcs_line, graphs_text};
 ghost use Rattle.flow_graph.specs.Arcs.{numbered};
 
 use crate::answers::Answer;
 use arc_compile::{Compiled, TypeSize};
 use arc_num::{Memory, push_bytes, push_number};
+use bound_certificates::{BoundKind, FoundBound};
 use packing_laws::{Bin, Count, Instance};
 use std::alloc::Global;
 
@@ -93,6 +94,32 @@ pub fn solve_text(alloc: Global, answer: &Answer) -> Result<Vec<u8>, Memory>
     let mut out = Vec::new(alloc);
     push_first_line(&mut out, answer)?;
     push_bins_of(&mut out, answer)?;
+    Ok(out)
+}
+
+fn push_kind(out: &mut Vec<u8>, kind: BoundKind) -> Result<(), Memory>
+    ensures { OnOk result (out.new.items ≡ out.old.items ++ kind_text kind) }
+{
+    match kind {
+        BoundKind::Step { dim, step } => {
+            push_bytes(out, b" step ")?;
+            push_number(out, u128::from(dim))?;
+            push_bytes(out, b" ")?;
+            push_number(out, u128::from(step))
+        }
+        BoundKind::Material => push_bytes(out, b" material"),
+    }
+}
+
+/// The report of `bound`.
+pub fn bound_text(alloc: Global, found: FoundBound) -> Result<Vec<u8>, Memory>
+    ensures { IfOk result (λ text. text.items ≡ bound_text found) }
+{
+    let mut out = Vec::new(alloc);
+    push_bytes(&mut out, b"bound ")?;
+    push_number(&mut out, u128::from(found.bound))?;
+    push_kind(&mut out, found.kind)?;
+    push_bytes(&mut out, b"\n")?;
     Ok(out)
 }
 

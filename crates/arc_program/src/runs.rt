@@ -13,6 +13,7 @@ use crate::refusals::{Refusal, refusal_text};
 use crate::status::Status;
 use arc_compile::{compiled_graphs_are_one, sizes_are_one};
 use arc_io::{Shelf, Sink};
+use cert_stream::verdicts_are_exact;
 use std::alloc::Global;
 use std::thread::Threads;
 
@@ -30,6 +31,7 @@ fn fit_is_not_rejected()
     ensures { FitIsNotRejected }
 {
     compiled_graphs_are_one();
+    verdicts_are_exact();
 }
 
 /// Puts a line, whatever the sink answers.

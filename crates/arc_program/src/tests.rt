@@ -1,4 +1,6 @@
 //! Examples that the commands are known by. Each says its status, so a run that only gives up is refused by them.
+mod bounds;
+mod certificates;
 mod examples;
 mod outside;
 mod solutions;
@@ -12,6 +14,7 @@ use std::thread::Threads;
 #[derive(Debug, Drop)]
 struct Outcome {
     status: Status,
+    shelf: MemShelf,
     out: MemSink,
     err: MemSink,
 }
@@ -62,7 +65,12 @@ fn run_with<R: Threads + Sync>(
 ) -> Result<Outcome, AllocError> {
     let words = split_words(alloc, words)?;
     let status = run(rt, alloc, words.as_slice(), &mut shelf, &mut out, &mut err);
-    Ok(Outcome { status, out, err })
+    Ok(Outcome {
+        status,
+        shelf,
+        out,
+        err,
+    })
 }
 
 /// A run over one text under this name, of which at most so many bytes are read at once. The sinks take all.

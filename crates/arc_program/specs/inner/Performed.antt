@@ -1,40 +1,53 @@
 -- What was done when a run has still to say what it refuses.
-use Rattle.std.specs.Prelude.{◌≡◌, ℕ, ◌⊎◌, List, IfSome, Result, Ok, Err, string_bytes}
+use Rattle.std.specs.Prelude.{◌≡◌, ℕ, ◌⊎◌, List, Option, IfSome, Result, Ok, Err, string_bytes}
 use Rattle.arc_io.specs.declared.IoFault.{IoFault}
 use Rattle.arc_io.specs.declared.IoFault.TheVariants as io
 use Rattle.packing_laws.specs.Instances.{InstanceValue}
 use Rattle.arc_compile.specs.Graphs.{IsSmall, IsTooLarge}
 use Rattle.command_words.specs.declared.faults.WordFault.{WordFault}
 use Rattle.arc_program.specs.declared.refusals.Refusal.{Refusal}
-use Rattle.arc_program.specs.declared.refusals.Refusal.TheVariants.{Words, Unread, Long, BadPlace, Large, Rejected, Unwritten, Memory}
+use Rattle.arc_program.specs.declared.refusals.Refusal.TheVariants.{Words, Unread, Long, BadPlace, Large, Rejected, Unstored, Unwritten, Memory}
 use Rattle.arc_program.specs.declared.status.Status.{Status}
 use Rattle.arc_program.specs.declared.status.Status.TheVariants.{NoMemory}
 use Rattle.command_words.specs.Requests.{Request}
 use Rattle.arc_program.specs.World.{ShelfSeen, SinkSeen}
 use Rattle.arc_num.specs.declared.TheConstants.{MAX_INSTANCE}
 use Rattle.arc_program.specs.Reading.{HasRead}
-use Rattle.arc_program.specs.Texts.{TextValue, ThenReads, HasReadAll}
+use Rattle.arc_program.specs.Texts.{TextValue, ThenReads, ReadsRefused}
+use Rattle.arc_program.specs.Writing.{HasFailedToWrite}
+use Rattle.arc_program.specs.Stored.{ThenWrites, HasDoneAll}
 use Rattle.arc_program.specs.Printing.{Line, PutsOnce, PutsText, CutsOff}
 use Rattle.arc_program.specs.Refusals.{refusal_line, refusal_status, memory_line}
 use Rattle.command_words.specs.Requests.{name_of, MakesGraphs}
 use Rattle.arc_program.specs.Requests.{IsRead, IsAccepted, IsLong, IsBadAt, IsLargeAt}
 use Rattle.arc_program.specs.Statuses.{IsReported}
-use Rattle.arc_program.specs.Ends.{IsOwed, IsOwedRejection, FailsAt, MayHaveReadAll}
+use Rattle.arc_program.specs.Ends.{IsOwed, IsOwedRejection, FailsAt, MayHaveDoneAll}
 
 -- a report was cut off by a put with this fault
 pub record IsCut (fault : IoFault) (request : Request) (before after : ShelfSeen) (old new : SinkSeen) : Type 0 where
   pub text : List ℕ
   pub status : Status
-  pub owed : IsOwed request before status text
-  pub shelf : HasReadAll request before after
+  pub certificate : Option (List ℕ)
+  pub owed : IsOwed request before status text certificate
+  pub shelf : HasDoneAll request certificate before after
   pub printed : CutsOff fault text old new
 
 -- a report was taken whole
 pub record IsPrinted (request : Request) (before after : ShelfSeen) (old new : SinkSeen) (status : Status) : Type 0 where
   pub text : List ℕ
-  pub owed : IsOwed request before status text
-  pub shelf : HasReadAll request before after
+  pub certificate : Option (List ℕ)
+  pub owed : IsOwed request before status text certificate
+  pub shelf : HasDoneAll request certificate before after
   pub printed : PutsText text old new
+
+-- the certificate that is owed could not be written under this name
+pub record IsUnstored (request : Request) (before after : ShelfSeen) (name : List ℕ) : Type 0 where
+  pub text : List ℕ
+  pub status : Status
+  pub certificate : Option (List ℕ)
+  pub owed : IsOwed request before status text certificate
+  pub shelf : ThenWrites request certificate HasFailedToWrite before after
+  pub named : name ≡ shelf.name
 
 -- the graphs of the instance that was read are too large from type t on
 pub record IsLargeRead (request : Request) (before : ShelfSeen) (t : ℕ) : Type 0 where
@@ -48,7 +61,7 @@ pub record IsRejectedRead (request : Request) (before after : ShelfSeen) (line :
   pub text : TextValue
   pub refused : text.refused ≡ status
   pub owed : IsOwedRejection request text before line
-  pub shelf : ThenReads request text HasRead before after
+  pub shelf : ThenReads request text (ReadsRefused request) before after
 
 -- what was done for a request: a report was printed, or there is a refusal
 abbrev pub CarriesOut : Request → ShelfSeen → ShelfSeen → SinkSeen → SinkSeen → Result Status Refusal → Type 0
@@ -59,8 +72,9 @@ CarriesOut request before after old new (Err (Long name)) = (string_bytes name �
 CarriesOut request before after old new (Err (BadPlace name fault)) = (string_bytes name ≡ name_of request) × IfSome (before.held (name_of request)) (λ bytes. IsBadAt request bytes fault) × HasRead (name_of request) MAX_INSTANCE before after × (new ≡ old)
 CarriesOut request before after old new (Err (Large name t)) = (string_bytes name ≡ name_of request) × IsLargeRead request before t × HasRead (name_of request) MAX_INSTANCE before after × (new ≡ old)
 CarriesOut request before after old new (Err (Rejected line status)) = IsRejectedRead request before after line status × (new ≡ old)
+CarriesOut request before after old new (Err (Unstored name)) = IsUnstored request before after (string_bytes name) × (new ≡ old)
 CarriesOut request before after old new (Err Unwritten) = IsCut io.Failed request before after old new
-CarriesOut request before after old new (Err Memory) = MayHaveReadAll request before after × ((new ≡ old) ⊎ IsCut io.Memory request before after old new)
+CarriesOut request before after old new (Err Memory) = MayHaveDoneAll request before after × ((new ≡ old) ⊎ IsCut io.Memory request before after old new)
 
 -- what was done for words that have a fault: nothing
 abbrev pub HasNothingDone : WordFault → Result Status Refusal → Type 0
@@ -71,6 +85,7 @@ HasNothingDone fault (Err (Long name)) = ⊥
 HasNothingDone fault (Err (BadPlace name place)) = ⊥
 HasNothingDone fault (Err (Large name t)) = ⊥
 HasNothingDone fault (Err (Rejected line status)) = ⊥
+HasNothingDone fault (Err (Unstored name)) = ⊥
 HasNothingDone fault (Err Unwritten) = ⊥
 HasNothingDone fault (Err Memory) = Unit {0}
 

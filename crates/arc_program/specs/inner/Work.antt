@@ -4,17 +4,17 @@ use Rattle.packing_laws.specs.Instances.{InstanceValue}
 use Rattle.arc_compile.specs.declared.results.CompileFault.{CompileFault}
 use Rattle.arc_compile.specs.declared.results.CompileFault.TheVariants as compile
 use Rattle.arc_compile.specs.Graphs.{IsSmall, IsTooLarge}
-use Rattle.command_words.specs.Requests.{Request, MakesGraphs}
+use Rattle.command_words.specs.Requests.{Request, certificate_of, MakesGraphs}
 use Rattle.arc_program.specs.declared.commands.Report.{Report}
 use Rattle.arc_program.specs.declared.commands.WorkFault.{WorkFault}
 use Rattle.arc_program.specs.declared.commands.WorkFault.TheVariants as work
 use Rattle.arc_program.specs.declared.status.Status.{Status}
 use Rattle.arc_program.specs.World.{ShelfSeen}
 use Rattle.arc_program.specs.Reading.{HasRead, HasFailed, MayHaveRead}
-use Rattle.arc_program.specs.Texts.{TextValue, second_text, second_held}
+use Rattle.arc_program.specs.Texts.{TextValue, second_text, second_held, ReadsRefused}
 use Rattle.arc_program.specs.Printing.{Line}
 use Rattle.arc_program.specs.Statuses.{IsReported}
-use Rattle.arc_program.specs.commands.{IsReport, IsRejection}
+use Rattle.arc_program.specs.commands.{IsReport, IsRejection, StopsUndecided, IsBeside}
 
 -- a fault of compiling, as a fault of a command's work
 abbrev pub IsWorkFault : CompileFault → WorkFault → Type 0
@@ -33,7 +33,7 @@ pub record Refuses (request : Request) (I : InstanceValue) (before after : Shelf
   pub refused : text.refused ≡ status
   pub small : MakesGraphs request → IsSmall I
   pub why : IsRejection request (before.held text.name) I line
-  pub shelf : HasRead text.name text.most before after
+  pub shelf : ReadsRefused request text.name text.most before after
 
 -- the second text may have been read
 abbrev pub MayHaveReadSecond : Request → ShelfSeen → ShelfSeen → Type 0
@@ -41,8 +41,8 @@ MayHaveReadSecond request before after = (after ≡ before) ⊎ ((text : TextVal
 
 -- what the work on the instance gives, and what it does to the shelf
 abbrev pub Works : Request → InstanceValue → ShelfSeen → ShelfSeen → Result Report WorkFault → Type 0
-Works request I before after (Ok report) = IsReported report.status × IsReport request (second_held request before.held) I report.status report.text × HasReadSecond (second_text request) before after
+Works request I before after (Ok report) = IsReported report.status × IsReport request (second_held request before.held) I report.status report.text × HasReadSecond (second_text request) before after × IsBeside (certificate_of request) request I report.text report.certificate
 Works request I before after (Err (work.Large t)) = MakesGraphs request × IsTooLarge I t × (after ≡ before)
-Works request I before after (Err (work.Unread name)) = (text : TextValue) × (second_text request ≡ Some text) × (string_bytes name ≡ text.name) × HasFailed text.name text.most before after
+Works request I before after (Err (work.Unread name)) = (text : TextValue) × (second_text request ≡ Some text) × (string_bytes name ≡ text.name) × HasFailed text.name text.most before after × StopsUndecided request I (before.held text.name) before after
 Works request I before after (Err (work.Rejected line status)) = Refuses request I before after line status
 Works request I before after (Err work.Memory) = MayHaveReadSecond request before after

@@ -1,6 +1,6 @@
 //! The command `compile`: the sizes of an instance's graphs.
 
-ghost use Rattle.std.specs.Prelude.{◌≡◌, ℕ, IfOk, IfErr};
+ghost use Rattle.std.specs.Prelude.{◌≡◌, ℕ, None, IfOk, IfErr};
 ghost use Rattle.command_words.specs.Requests.{IsCount};
 ghost use Rattle.arc_compile.specs.Levels.{AreLevelSizes};
 ghost use Rattle.arc_compile.specs.Graphs.{IsSmall, IsTooLarge};
@@ -35,12 +35,14 @@ fn graph_report(alloc: Global, instance: &Instance, compiled: &Compiled) -> Resu
     requires small { IsSmall instance.now }
     ensures reported { IfOk result (λ report. IsReported report.status) }
     ensures text { IfOk result (λ report. IsGraphReport instance.now report.status report.text) }
+    ensures alone { IfOk result (λ report. report.certificate ≡ None) }
 {
     let levels = level_sizes(alloc, instance)?;
     let text = Text::new(compile_text(alloc, instance, compiled, levels.as_slice())?);
     Ok(Report {
         text,
         status: Status::Done,
+        certificate: None,
     })
 }
 
@@ -54,6 +56,7 @@ pub fn report<R: Threads + Sync>(
     requires { IsCount workers }
     ensures reported { IfOk result (λ report. IsReported report.status) }
     ensures text { IfOk result (λ report. IsGraphReport instance.now report.status report.text) }
+    ensures alone { IfOk result (λ report. report.certificate ≡ None) }
     ensures large { IfErr result (λ fault. (t : ℕ) → fault ≡ CompileFault.TooManyArcs t → IsTooLarge instance.now t) }
 {
     let compiled = compile(rt, alloc, instance, workers)?;

@@ -1,6 +1,6 @@
 //! The command `export`: the model of an instance, as MPS text.
 
-ghost use Rattle.std.specs.Prelude.{◌≡◌, ℕ, IfOk, IfErr};
+ghost use Rattle.std.specs.Prelude.{◌≡◌, ℕ, None, IfOk, IfErr};
 ghost use Rattle.arc_compile.specs.Graphs.{IsSmall, IsTooLarge};
 ghost use Rattle.arc_compile.specs.Compiled.{AreCompiled};
 ghost use Rattle.flow_graph.specs.Faithful.{IsFaithful};
@@ -27,6 +27,7 @@ fn model_report(alloc: Global, instance: &Instance, compiled: &Compiled) -> Resu
     requires small { IsSmall instance.now }
     ensures reported { IfOk result (λ report. IsReported report.status) }
     ensures text { IfOk result (λ report. IsExport instance.now report.status report.text) }
+    ensures alone { IfOk result (λ report. report.certificate ≡ None) }
 {
     instance.known();
     compiled.graph.known();
@@ -39,6 +40,7 @@ fn model_report(alloc: Global, instance: &Instance, compiled: &Compiled) -> Resu
     Ok(Report {
         text,
         status: Status::Done,
+        certificate: None,
     })
 }
 
@@ -50,6 +52,7 @@ pub fn report<R: Threads + Sync>(
 ) -> Result<Report, CompileFault>
     ensures reported { IfOk result (λ report. IsReported report.status) }
     ensures text { IfOk result (λ report. IsExport instance.now report.status report.text) }
+    ensures alone { IfOk result (λ report. report.certificate ≡ None) }
     ensures large { IfErr result (λ fault. (t : ℕ) → fault ≡ CompileFault.TooManyArcs t → IsTooLarge instance.now t) }
 {
     let compiled = compile(rt, alloc, instance, 1)?;

@@ -1,6 +1,6 @@
 //! The command `solve`: a packing by first fit, and the material bound.
 
-ghost use Rattle.std.specs.Prelude.{◌≡◌, ◌≤◌, ◌↔◌, IfOk, IfSome, IsSome};
+ghost use Rattle.std.specs.Prelude.{◌≡◌, ◌≤◌, ◌↔◌, None, IfOk, IfSome, IsSome};
 ghost use Rattle.packing_laws.specs.Packings.{cost_of, IsJoined};
 ghost use Rattle.packing_laws.specs.Printed.{bins_of, IsTidy, IsWrittenPacking};
 ghost use Rattle.packing_laws.specs.Floors.{HasSingle};
@@ -104,9 +104,14 @@ fn answer_of(alloc: Global, instance: &Instance) -> Result<Answer, Memory>
 pub fn report(alloc: Global, instance: &Instance) -> Result<Report, Memory>
     ensures reported { IfOk result (λ report. IsReported report.status) }
     ensures text { IfOk result (λ report. IsSolved instance.now report.status report.text) }
+    ensures alone { IfOk result (λ report. report.certificate ≡ None) }
 {
     let answer = answer_of(alloc, instance)?;
     let status = answer.status();
     let text = Text::new(solve_text(alloc, &answer)?);
-    Ok(Report { text, status })
+    Ok(Report {
+        text,
+        status,
+        certificate: None,
+    })
 }

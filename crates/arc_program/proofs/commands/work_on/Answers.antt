@@ -1,6 +1,6 @@
 use Rattle.std.proofs.Common.{List, ℕ, refl, string_bytes, sym, subst}
 use Rattle.command_words.specs.declared.commands.Command.{Command}
-use Rattle.command_words.specs.Requests.{Extracts, request_of, MakesGraphs}
+use Rattle.command_words.specs.Requests.{Checks, Extracts, request_of, MakesGraphs}
 use Rattle.arc_program.specs.World.{ShelfSeen, shelf_seen}
 use Rattle.arc_program.specs.inner.Work.{Works}
 use Rattle.arc_program.proofs.WorkLemmas.{works_not}
@@ -21,3 +21,11 @@ returns-in-Extract-clause-works g c =
     let name : List ℕ = string_bytes c.in-Extract.name in
     subst (λ (command : Command). Works (request_of command) c.args.instance.now before after c.report-in-Extract.result) (sym c.in-Extract.is)
     (subst (λ (solution : List ℕ). Works (Extracts name solution c.in-Extract.mvp) c.args.instance.now before after c.report-in-Extract.result) c.as_str.ensures.value (c.report-in-Extract.ensures.works name c.in-Extract.mvp))
+
+pub returns-in-Check-clause-works : goal.returns-in-Check-clause-works
+returns-in-Check-clause-works g c =
+    let before : ShelfSeen = shelf_seen g.H.Shelf c.args.shelf.now in
+    let after : ShelfSeen = shelf_seen g.H.Shelf c.report-in-Check.new.shelf in
+    let name : List ℕ = string_bytes c.in-Check.name in
+    subst (λ (command : Command). Works (request_of command) c.args.instance.now before after c.report-in-Check.result) (sym c.in-Check.is)
+    (subst (λ (certificate : List ℕ). Works (Checks name certificate c.in-Check.mvp c.in-Check.workers) c.args.instance.now before after c.report-in-Check.result) c.as_str-in-Check.ensures.value (c.report-in-Check.ensures.works name c.in-Check.mvp))

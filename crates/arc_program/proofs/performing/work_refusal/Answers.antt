@@ -17,7 +17,7 @@ returns-in-Large c = λ request before between after out I named read has keeps 
 pub returns-in-Unread : goal.returns-in-Unread
 returns-in-Unread c = λ request before between after out I named read has keeps works.
     let w : Works request I between after (Err (work.Unread c.in-Unread.name)) = subst (λ (f : WorkFault). Works request I between after (Err f)) c.in-Unread.is works in
-    (fails_second request before between after has keeps (string_bytes c.in-Unread.name) w.0 w.1 w.2 w.3, refl)
+    (fails_second request before between after has keeps I read (string_bytes c.in-Unread.name) w.0 w.1 w.2 w.3 w.4, refl)
 
 pub returns-in-Rejected : goal.returns-in-Rejected
 returns-in-Rejected c = λ request before between after out I named read has keeps works.
@@ -27,4 +27,4 @@ returns-in-Rejected c = λ request before between after out I named read has kee
 pub returns-in-Memory : goal.returns-in-Memory
 returns-in-Memory c = λ request before between after out I named read has keeps works.
     let w : Works request I between after (Err work.Memory) = subst (λ (f : WorkFault). Works request I between after (Err f)) c.in-Memory.is works in
-    (may_have_all request before between after has keeps w, inl refl)
+    (inl (may_have_all request before between after has keeps w), inl refl)

@@ -1,14 +1,12 @@
-use Rattle.std.proofs.Common.{refl, subst, Err}
-use Rattle.arc_num.specs.declared.TheConstants.{MAX_INSTANCE}
+use Rattle.std.proofs.Common.{subst, Err}
 use Rattle.arc_program.specs.declared.loading.LoadFault.{LoadFault}
-use Rattle.arc_program.specs.declared.status.Status.TheVariants.{BadSolution}
 use Rattle.arc_program.specs.inner.Loading.{Loads}
-use Rattle.arc_program.proofs.Extracted.{long_works, starved_failed, starved_long, starved_reading}
+use Rattle.arc_program.proofs.Extracted.{unread_works, long_works, starved_failed, starved_long, starved_reading}
 use Rattle.arc_program.proofs.commands.extract.load_fault.Goals as goal
 
 pub returns-in-Ok : goal.returns-in-Ok
 returns-in-Ok c = λ name mvp I before after small loads.
-    (record { name = c.args.solution.now; most = MAX_INSTANCE; refused = BadSolution }, refl, c.in-Ok.ensures.ok, subst (λ (f : LoadFault). Loads c.args.solution.now (Err f) before after) c.in-Failed.is loads)
+    unread_works name c.args.solution.now mvp I before after _ c.in-Ok.ensures.ok (subst (λ (f : LoadFault). Loads c.args.solution.now (Err f) before after) c.in-Failed.is loads)
 
 pub returns-in-Err : goal.returns-in-Err
 returns-in-Err c = λ name mvp I before after small loads.
