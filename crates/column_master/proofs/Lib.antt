@@ -1,0 +1,3 @@
+pub mod MoreListed
+pub mod MoreParts
+pub mod ToldFlows

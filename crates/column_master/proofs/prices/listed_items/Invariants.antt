@@ -1,0 +1,8 @@
+-- The items so far.
+use Rattle.arc_num.specs.declared.TheConstants.{MAX_PRICE}
+use Rattle.cert_text.specs.Lines.{IsBetween}
+use Rattle.column_master.specs.inner.Listings.{AreListed}
+use Rattle.column_master.proofs.prices.listed_items.Given as goal
+
+abbrev pub invariant-loop-index : goal.invariant-loop-index
+invariant-loop-index l = AreListed (λ x. x.item) (λ x. IsBetween 1 MAX_PRICE x.price) l.index l.listed

@@ -1,0 +1,15 @@
+pub mod BadRows
+pub mod Balanced
+pub mod ChordValues
+pub mod Closing
+pub mod Climbing
+pub mod Excesses
+pub mod Forests
+pub mod JointLists
+pub mod Listing
+pub mod Priced
+pub mod Settles
+pub mod Settling
+pub mod Told
+pub mod WorkedBoxes
+pub mod ChordFlags
