@@ -1,0 +1,2 @@
+pub mod LastStates
+pub mod HomelessItems

@@ -1,0 +1,7 @@
+pub mod Changes
+pub mod Growing
+pub mod Narrower
+pub mod Counted
+pub mod Emission
+pub mod Needs
+pub mod WorkedTree

@@ -1,0 +1,4 @@
+pub mod Trees
+pub mod Points
+pub mod Laws
+pub mod inner
