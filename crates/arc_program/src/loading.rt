@@ -30,8 +30,7 @@ pub enum LoadFault {
     Memory,
 }
 
-/// Reads at most as many bytes as the piece has, and puts them at the end of the text. 0 is the end. Nothing else reads
-/// from a shelf.
+/// Reads at most as many bytes as the piece has, and puts them at the end of the text. 0 is the end.
 fn read_piece<H: Shelf>(
     shelf: &mut H,
     piece: &mut [u8],
