@@ -46,7 +46,7 @@ is_unit i n some = elim (cases_Bool (n.item == i)) [
 ]
 
 -- where a content with a unit of an item fits a type, some form of the item does
-content-place : (I : InstanceValue) (t i : ℕ) (c : Content) → IsInstance I → Fits I t c → IsAmong i (length I.items) → 0 < count_of_item i c → item_fits (item_at I i) (type_at I t) ≡ true
+pub content-place : (I : InstanceValue) (t i : ℕ) (c : Content) → IsInstance I → Fits I t c → IsAmong i (length I.items) → 0 < count_of_item i c → item_fits (item_at I i) (type_at I t) ≡ true
 content-place I t i c inside fits among some =
     let found = positive_term (λ (n : Count). cond (n.item == i) n.count 0) c some in
     let nothing : Count = record { item = 0; form = 0; count = 0 } in
