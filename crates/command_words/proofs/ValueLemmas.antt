@@ -1,20 +1,22 @@
 -- Where no word is faulty, each value that stands with an option may stand there.
-use Rattle.std.proofs.Common.{◌≡◌, ◌∙◌, ℕ, Bool, true, false, cond, ◌&&◌, List, [], ◌∷◌, ◌++◌, Option, Some, None, Result, Ok, refl, sym, ap, subst, slice_get, length, arith}
-use Rattle.std.specs.Prelude.{nat_le, unwrap_or, option_and_then}
+use Rattle.std.proofs.Common.{◌≡◌, ◌∙◌, ℕ, ◌≤◌, Bool, true, false, cond, ◌&&◌, List, [], ◌∷◌, ◌++◌, Option, Some, None, Result, Ok, refl, sym, ap, subst, slice_get, length}
+use Rattle.std.specs.Prelude.{nat_le, option_and_then}
 use Rattle.std.specs.List.{filter_map, cons_option}
 use Rattle.std.specs.Option.{option_or, option_map_or}
-use Rattle.std.proofs.lemmas.Bool.{leb-true}
+use Rattle.std.proofs.lemmas.Bool.{leb-true, false≢true}
 use Rattle.arc_num.specs.Decimals.{number_of}
-use Rattle.arc_num.specs.declared.TheConstants.{MAX_WORKERS}
+use Rattle.arc_num.specs.declared.TheConstants.{MAX_SPLITS, MAX_WORKERS}
 use Rattle.command_words.specs.declared.table.Setting.{Setting}
 use Rattle.command_words.specs.declared.table.Setting.TheVariants.{Mvp, Joint, Nodes, Cert, Workers}
+use Rattle.command_words.specs.declared.table.Takes.{Takes}
+use Rattle.command_words.specs.declared.table.Takes.TheVariants.{Number}
 use Rattle.command_words.specs.declared.table.Shape.{Shape}
 use Rattle.command_words.specs.declared.faults.WordFault.{WordFault}
 use Rattle.command_words.specs.Words.{Word}
 use Rattle.command_words.specs.Table.{taken_by}
 use Rattle.command_words.specs.Parts.{PartValue, Plain, Unknown, Bare, Joined, Next, parts_of}
 use Rattle.command_words.specs.Faults.{same, is_value, is_number, value_fault, value_for, value_of_setting, number_of_setting, part_fault, first_fault, fault_in, unless, said_by, HasValues}
-use Rattle.command_words.specs.Requests.{wanted_workers, IsCount}
+use Rattle.command_words.specs.Requests.{IsCount}
 
 same_is : (s t : Setting) → same s t ≡ true → t ≡ s
 same_is Mvp Mvp h = refl
@@ -43,11 +45,11 @@ same_is Workers Joint h = absurd (cc)
 same_is Workers Nodes h = absurd (cc)
 same_is Workers Cert h = absurd (cc)
 
-or_none : (a b : Option WordFault) → option_or a b ≡ None → (a ≡ None) × (b ≡ None)
+pub or_none : (a b : Option WordFault) → option_or a b ≡ None → (a ≡ None) × (b ≡ None)
 or_none (Some fault) b e = absurd (cc)
 or_none None b e = (refl, e)
 
-no_value_fault : (b : Bool) (fault : WordFault) → cond b None (Some fault) ≡ None → b ≡ true
+pub no_value_fault : (b : Bool) (fault : WordFault) → cond b None (Some fault) ≡ None → b ≡ true
 no_value_fault true fault e = refl
 no_value_fault false fault e = absurd (cc)
 
@@ -98,28 +100,33 @@ both_true : (a b : Bool) → a && b ≡ true → (a ≡ true) × (b ≡ true)
 both_true true b h = (refl, h)
 both_true false b h = absurd (cc)
 
--- the number of threads that is asked for is one that may work at once
-counted : (w : Word) (n : ℕ) → number_of w ≡ Some n → is_number 1 MAX_WORKERS w ≡ true → IsCount n
-counted w n e h =
-    let in_range : option_map_or (λ (m : ℕ). nat_le 1 m && nat_le m MAX_WORKERS) (number_of w) false ≡ true = (both_true (nat_le (length w) 20) _ h).1 in
-    let here : nat_le 1 n && nat_le n MAX_WORKERS ≡ true = subst (λ (o : Option ℕ). option_map_or (λ (m : ℕ). nat_le 1 m && nat_le m MAX_WORKERS) o false ≡ true) e in_range in
-    let parts = both_true (nat_le 1 n) (nat_le n MAX_WORKERS) here in
-    (leb-true 1 n parts.0, leb-true n MAX_WORKERS parts.1)
+-- a number that is one in the range
+pub counted : (least most : ℕ) (w : Word) (n : ℕ) → number_of w ≡ Some n → is_number least most w ≡ true → (least ≤ n) × (n ≤ most)
+counted least most w n e h =
+    let in_range : option_map_or (λ (m : ℕ). nat_le least m && nat_le m most) (number_of w) false ≡ true = (both_true (nat_le (length w) 20) _ h).1 in
+    let here : nat_le least n && nat_le n most ≡ true = subst (λ (o : Option ℕ). option_map_or (λ (m : ℕ). nat_le least m && nat_le m most) o false ≡ true) e in_range in
+    let parts = both_true (nat_le least n) (nat_le n most) here in
+    (leb-true least n parts.0, leb-true n most parts.1)
 
--- how many threads the words ask for
-pub workers_counted : (parts : List PartValue) → HasValues parts → IsCount (wanted_workers parts)
-workers_counted parts values = decide (value_of_setting Workers parts) refl
+-- a word that is a number in the range has a value
+pub has_number : (least most : ℕ) (w : Word) → number_of w ≡ None → is_number least most w ≡ true → ⊥
+has_number least most w e h =
+    let in_range : option_map_or (λ (m : ℕ). nat_le least m && nat_le m most) (number_of w) false ≡ true = (both_true (nat_le (length w) 20) _ h).1 in
+    false≢true (subst (λ (o : Option ℕ). option_map_or (λ (m : ℕ). nat_le least m && nat_le m most) o false ≡ true) e in_range)
+
+-- the number that an option gives is one in its range
+number_in : (s : Setting) (least most : ℕ) (parts : List PartValue) (n : ℕ) → taken_by s ≡ Number least most → HasValues parts → number_of_setting s parts ≡ Some n → (least ≤ n) × (n ≤ most)
+number_in s least most parts n takes values is = decide (value_of_setting s parts) refl is
   where
-    number_at : (w : Word) (o : Option ℕ) → number_of w ≡ o → is_number 1 MAX_WORKERS w ≡ true → IsCount (unwrap_or o 1)
-    number_at w None e h = (omega arith, omega arith)
-    number_at w (Some n) e h = counted w n e h
+    decide : (found : Option Word) → value_of_setting s parts ≡ found → option_and_then number_of found ≡ Some n → (least ≤ n) × (n ≤ most)
+    decide None e h = absurd (cc)
+    decide (Some w) e h = counted least most w n h (subst (λ (t : Takes). is_value t w ≡ true) takes (values s w e))
 
-    decide : (found : Option Word) → value_of_setting Workers parts ≡ found → IsCount (unwrap_or (option_and_then number_of found) 1)
-    decide None e = (omega arith, omega arith)
-    decide (Some w) e = number_at w (number_of w) refl (values Workers w e)
+pub workers_found : (parts : List PartValue) (o : Option ℕ) (n : ℕ) → HasValues parts → o ≡ number_of_setting Workers parts → o ≡ Some n → IsCount n
+workers_found parts o n values is some = number_in Workers 1 MAX_WORKERS parts n refl values (sym is ∙ some)
 
-pub count_found : (parts : List PartValue) (o : Option ℕ) (n : ℕ) → HasValues parts → o ≡ number_of_setting Workers parts → o ≡ Some n → IsCount n
-count_found parts o n values is some = subst (λ (p : Option ℕ). IsCount (unwrap_or p 1)) (sym is ∙ some) (workers_counted parts values)
+pub nodes_found : (parts : List PartValue) (o : Option ℕ) (n : ℕ) → HasValues parts → o ≡ number_of_setting Nodes parts → o ≡ Some n → n ≤ MAX_SPLITS
+nodes_found parts o n values is some = (number_in Nodes 0 MAX_SPLITS parts n refl values (sym is ∙ some)).1
 
 -- parts that have no fault are what is said
 pub said_parts : (shape : Shape) (ws : List Word) (parts : List PartValue) (fault : Option WordFault) → parts ≡ parts_of ws → fault ≡ fault_in shape parts → fault ≡ None → said_by shape ws ≡ Ok parts

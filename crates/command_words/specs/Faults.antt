@@ -1,5 +1,5 @@
 -- The first faulty word of a command line, and what its words say where there is none.
-use Rattle.std.specs.Prelude.{◌≡◌, ℕ, Bool, true, false, not, ◌&&◌, ◌||◌, ◌==◌, nat_lt, nat_le, if◌then◌else◌, List, [], ◌∷◌, ◌++◌, length, Option, Some, None, Result, Ok, Err, slice_get, option_and_then}
+use Rattle.std.specs.Prelude.{◌≡◌, ℕ, ◌≤◌, Bool, true, false, not, ◌&&◌, ◌||◌, ◌==◌, nat_lt, nat_le, if◌then◌else◌, List, [], ◌∷◌, ◌++◌, length, Option, Some, None, Result, Ok, Err, slice_get, option_and_then}
 use Rattle.std.specs.List.{list_any, filter_map}
 use Rattle.std.specs.Option.{option_or, option_map_or}
 use Rattle.arc_num.specs.Decimals.{number_of}
@@ -142,3 +142,8 @@ plain_of n parts = slice_get (plains_in parts) n
 -- each value that stands with an option may stand there
 abbrev pub HasValues : List PartValue → Type 0
 HasValues parts = (s : Setting) (value : Word) → value_of_setting s parts ≡ Some value → is_value (taken_by s) value ≡ true
+
+-- as many plain words stand there as the command has, and each that stands for a number is one in its range
+pub record HasPlains (shape : Shape) (parts : List PartValue) : Type 0 where
+  pub count : plain_count shape ≤ length (plains_in parts)
+  pub numbers : (n least most : ℕ) (w : Word) → plain_at shape n ≡ Some (Number least most) → plain_of n parts ≡ Some w → is_number least most w ≡ true

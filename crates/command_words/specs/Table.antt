@@ -1,10 +1,11 @@
 -- The table of the command line: a row for each command, and what each option takes.
-use Rattle.std.specs.Prelude.{ℕ, Bool, true, false, ◌==◌, if◌then◌else◌, Option, Some, None, codes}
+use Rattle.std.specs.Prelude.{ℕ, ◌-◌, ◌^◌, Bool, true, false, ◌==◌, if◌then◌else◌, Option, Some, None, codes}
 use Rattle.std.specs.Str.{bytes_eq}
-use Rattle.arc_num.specs.declared.TheConstants.{MAX_SPLITS, MAX_WORKERS}
+use Rattle.arc_num.specs.declared.TheConstants.{MAX_ITEMS, MAX_SPLITS, MAX_WORKERS}
 use Rattle.command_words.specs.declared.table.Verb.{Verb}
-use Rattle.command_words.specs.declared.table.Verb.TheVariants.{Compile, Solve, Check, Export, Extract, Bound}
+use Rattle.command_words.specs.declared.table.Verb.TheVariants.{Compile, Solve, Check, Export, Extract, Bound, Make}
 use Rattle.command_words.specs.declared.table.PlainWord.{PlainWord}
+use Rattle.command_words.specs.declared.table.PlainWord.TheVariants as plain
 use Rattle.command_words.specs.declared.table.PlainWord.TheVariants.{Instance, Certificate, Solution}
 use Rattle.command_words.specs.declared.table.Setting.{Setting}
 use Rattle.command_words.specs.declared.table.Setting.TheVariants.{Mvp, Joint, Nodes, Cert, Workers}
@@ -22,7 +23,8 @@ verb_named w =
     else (if bytes_eq w (codes "check") then Some Check
     else (if bytes_eq w (codes "export") then Some Export
     else (if bytes_eq w (codes "extract") then Some Extract
-    else (if bytes_eq w (codes "bound") then Some Bound else None)))))
+    else (if bytes_eq w (codes "bound") then Some Bound
+    else (if bytes_eq w (codes "make") then Some Make else None))))))
 
 -- NAME [--mvp]
 abbrev pub instance_shape : Shape
@@ -44,14 +46,23 @@ solved_instance_shape = record { first = Instance; second = Some Solution; mvp =
 abbrev pub certifiable_instance_shape : Shape
 certifiable_instance_shape = record { first = Instance; second = None; mvp = true; joint = false; nodes = false; cert = true; workers = false }
 
+-- NAME [--mvp] [--nodes N] [--cert CERT] [--workers K]
+abbrev pub searched_instance_shape : Shape
+searched_instance_shape = record { first = Instance; second = None; mvp = true; joint = false; nodes = true; cert = true; workers = true }
+
+-- SEED SIZE [--nodes N] [--workers K]
+abbrev pub generated_instance_shape : Shape
+generated_instance_shape = record { first = plain.Number 0 (2 ^ 64 - 1); second = Some (plain.Number 1 MAX_ITEMS); mvp = false; joint = false; nodes = true; cert = false; workers = true }
+
 -- the rows: the plain words and options of each command, and whether it makes the graphs of the instance
 abbrev pub row_of : Verb → Row
 row_of Compile = record { shape = shared_instance_shape; makes_graphs = true }
-row_of Solve = record { shape = shared_instance_shape; makes_graphs = false }
+row_of Solve = record { shape = searched_instance_shape; makes_graphs = true }
 row_of Check = record { shape = certified_instance_shape; makes_graphs = true }
 row_of Export = record { shape = instance_shape; makes_graphs = true }
 row_of Extract = record { shape = solved_instance_shape; makes_graphs = true }
 row_of Bound = record { shape = certifiable_instance_shape; makes_graphs = false }
+row_of Make = record { shape = generated_instance_shape; makes_graphs = true }
 
 -- the option of a name
 abbrev pub setting_named : Word → Option Setting

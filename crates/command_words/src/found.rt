@@ -1,7 +1,8 @@
 //! What the words behind a command say.
 
-ghost use Rattle.std.specs.Prelude.{◌≡◌, map, string_bytes, IfOk, MatchResult, MatchOption, Ok, None, Some};
-ghost use Rattle.command_words.specs.Faults.{said_by, FaultIs, HasValues, is_given, plain_of, value_of_setting, number_of_setting};
+ghost use Rattle.std.specs.Prelude.{◌≡◌, map, string_bytes, IfOk, MatchResult, MatchOption, Ok, None, Some, option_and_then};
+ghost use Rattle.arc_num.specs.Decimals.{number_of};
+ghost use Rattle.command_words.specs.Faults.{said_by, FaultIs, HasValues, HasPlains, is_given, plain_of, value_of_setting, number_of_setting};
 
 use crate::checks::{fault_in, is_given};
 use crate::faults::WordFault;
@@ -31,6 +32,7 @@ impl Found {
     pub fn read(alloc: Global, shape: Shape, words: &[String]) -> Result<Self, WordFault>
         ensures said { MatchResult result (λ found. said_by shape (map string_bytes words.now) ≡ Ok found) (λ fault. FaultIs (said_by shape (map string_bytes words.now)) fault) }
         ensures values { IfOk result HasValues }
+        ensures plains { IfOk result (HasPlains shape) }
     {
         let parts = parts_of(alloc, words)?;
         match fault_in(shape, parts.as_slice()) {
@@ -60,6 +62,16 @@ impl Found {
             }
         }
         None
+    }
+
+    /// The number that the plain word at this place, from 0, is.
+    pub fn plain_number(&self, place: usize) -> Option<u64>
+        ensures { result ≡ option_and_then number_of (plain_of place self.now) }
+    {
+        match self.plain(place) {
+            Some(text) => number(text.as_bytes()),
+            None => None,
+        }
     }
 
     /// The value of an option.

@@ -6,9 +6,11 @@ mod commands;
 mod faults;
 mod found;
 mod parts;
+mod reading;
 mod table;
 #[cfg(test)]
 mod tests;
 
-pub use commands::{Command, Source, read_words};
+pub use commands::{Command, DEFAULT_SPLITS, Source};
 pub use faults::{WordFault, push_word_fault};
+pub use reading::read_words;

@@ -3,7 +3,7 @@
 ghost use Rattle.std.specs.Prelude.{◌≡◌, ℕ, Bool, Option};
 ghost use Rattle.command_words.specs.Table.{verb_named, row_of, setting_named, taken_by, takes_value, allows, plain_at, plain_count};
 
-use arc_num::{MAX_SPLITS, MAX_WORKERS};
+use arc_num::{MAX_ITEMS, MAX_SPLITS, MAX_WORKERS};
 
 /// A command, by its word.
 #[derive(Clone, Copy, Debug)]
@@ -14,6 +14,7 @@ pub enum Verb {
     Export,
     Extract,
     Bound,
+    Make,
 }
 
 /// What a plain word of a command stands for.
@@ -109,6 +110,30 @@ const CERTIFIABLE_INSTANCE: Shape = Shape {
     ..INSTANCE
 };
 
+/// An instance that a search is made on, whose certificate may be written.
+const SEARCHED_INSTANCE: Shape = Shape {
+    nodes: true,
+    cert: true,
+    ..SHARED_INSTANCE
+};
+
+/// An instance that is generated: the seed, and how many items it has.
+const GENERATED_INSTANCE: Shape = Shape {
+    first: PlainWord::Number {
+        least: 0,
+        most: u64::MAX,
+    },
+    second: Some(PlainWord::Number {
+        least: 1,
+        most: MAX_ITEMS as u64,
+    }),
+    mvp: false,
+    joint: false,
+    nodes: true,
+    cert: false,
+    workers: true,
+};
+
 impl Verb {
     /// The command that a word names.
     pub fn named(word: &str) -> Option<Self>
@@ -121,6 +146,7 @@ impl Verb {
             "export" => Some(Verb::Export),
             "extract" => Some(Verb::Extract),
             "bound" => Some(Verb::Bound),
+            "make" => Some(Verb::Make),
             _ => None,
         }
     }
@@ -135,8 +161,8 @@ impl Verb {
                 makes_graphs: true,
             },
             Verb::Solve => Row {
-                shape: SHARED_INSTANCE,
-                makes_graphs: false,
+                shape: SEARCHED_INSTANCE,
+                makes_graphs: true,
             },
             Verb::Check => Row {
                 shape: CERTIFIED_INSTANCE,
@@ -153,6 +179,10 @@ impl Verb {
             Verb::Bound => Row {
                 shape: CERTIFIABLE_INSTANCE,
                 makes_graphs: false,
+            },
+            Verb::Make => Row {
+                shape: GENERATED_INSTANCE,
+                makes_graphs: true,
             },
         }
     }

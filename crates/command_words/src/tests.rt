@@ -1,7 +1,7 @@
 //! The rows that the words of the command line are known by, also over shapes that no command has yet.
 use crate::found::Found;
 use crate::table::{PlainWord, Setting, Shape};
-use crate::{Command, WordFault, push_word_fault, read_words};
+use crate::{Command, DEFAULT_SPLITS, Source, WordFault, push_word_fault, read_words};
 use std::alloc::{AllocError, Global};
 use std::test::Fail;
 
@@ -30,16 +30,6 @@ fn every_option(first: PlainWord, second: Option<PlainWord>) -> Shape {
     }
 }
 
-const ANY_SEED: PlainWord = PlainWord::Number {
-    least: 0,
-    most: u64::MAX,
-};
-
-const SOME_SIZE: PlainWord = PlainWord::Number {
-    least: 1,
-    most: 1_000,
-};
-
 fn found(alloc: Global, shape: Shape, words: &str) -> Result<Found, WordFault> {
     match split_words(alloc, words) {
         Ok(words) => Found::read(alloc, shape, words.as_slice()),
@@ -61,22 +51,37 @@ fn command(alloc: Global, words: &str) -> Result<Command, WordFault> {
     }
 }
 
+/// Whether the instance is read under this name, in this layout.
+fn is_named(source: Source<'_>, name: &str, mvp: bool) -> bool {
+    match source {
+        Source::Named {
+            name: told,
+            mvp: layout,
+        } => told == name && layout == mvp,
+        Source::Generated { .. } => false,
+    }
+}
+
+/// Whether the instance is generated from this seed, with so many items.
+fn is_generated(source: Source<'_>, seed: u64, size: u32) -> bool {
+    match source {
+        Source::Named { .. } => false,
+        Source::Generated {
+            seed: told,
+            size: items,
+        } => told == seed && items == size,
+    }
+}
+
 #[test]
 fn commands_are_read(rt: HostRuntime) -> Result<(), Fail> {
     let compile = command(rt.alloc(), "compile a.mvp")?;
     assert!(rt; matches!(&compile, Command::Compile { .. }) && compile.makes_graphs());
-    assert_eq!(rt;
-        (compile.source().name, compile.source().mvp),
-        ("a.mvp", true)
-    );
-    let solve = command(rt.alloc(), "solve --mvp --workers=64 -- --a")?;
-    assert!(rt; matches!(&solve, Command::Solve { .. }) && !solve.makes_graphs());
-    assert_eq!(rt; (compile.workers(), solve.workers()), (1, 64));
-    assert_eq!(rt; (solve.source().name, solve.source().mvp), ("--a", true));
+    assert!(rt; is_named(compile.source(), "a.mvp", true) && compile.workers() == 1);
     let export = command(rt.alloc(), "export -")?;
     assert!(rt; matches!(&export, Command::Export { .. }) && export.makes_graphs());
-    assert!(rt; !export.source().mvp);
-    assert_eq!(rt; export.into_name().as_str(), "-");
+    assert!(rt; is_named(export.source(), "-", false));
+    assert_eq!(rt; export.into_name(rt.alloc())?.as_str(), "-");
     match command(rt.alloc(), "extract a.mvp -")? {
         Command::Extract {
             name,
@@ -88,6 +93,48 @@ fn commands_are_read(rt: HostRuntime) -> Result<(), Fail> {
         ),
         _ => panic!(rt; "another command is read"),
     }
+    Ok(())
+}
+
+#[test]
+fn splits_are_granted(rt: HostRuntime) -> Result<(), Fail> {
+    match command(rt.alloc(), "solve --mvp --workers=64 -- --a")? {
+        Command::Solve {
+            name,
+            mvp,
+            nodes,
+            cert,
+            workers,
+        } => {
+            assert_eq!(rt; (name.as_str(), mvp), ("--a", true));
+            assert_eq!(rt; (nodes, workers), (DEFAULT_SPLITS, 64));
+            assert_eq!(rt; cert.as_deref(), None);
+        }
+        _ => panic!(rt; "another command is read"),
+    }
+    let solve = command(rt.alloc(), "solve a.mvp --nodes=0 --cert b.cert")?;
+    assert!(rt; solve.makes_graphs() && is_named(solve.source(), "a.mvp", true));
+    assert_eq!(rt; solve.into_certificate().as_deref(), Some("b.cert"));
+    Ok(())
+}
+
+#[test]
+fn generated_instances_are_asked_for(rt: HostRuntime) -> Result<(), Fail> {
+    match command(
+        rt.alloc(),
+        "make --nodes 20000 18446744073709551615 1000 --workers=8",
+    )? {
+        Command::Make {
+            seed,
+            size,
+            nodes,
+            workers,
+        } => assert_eq!(rt; (seed, size, nodes, workers), (u64::MAX, 1_000, 20_000, 8)),
+        _ => panic!(rt; "another command is read"),
+    }
+    let make = command(rt.alloc(), "make 00000000000000000000 007")?;
+    assert!(rt; make.makes_graphs() && is_generated(make.source(), 0, 7));
+    assert_eq!(rt; make.into_name(rt.alloc())?.as_str(), "make");
     Ok(())
 }
 
@@ -122,6 +169,8 @@ fn certificates_to_be_written_are_named(rt: HostRuntime) -> Result<(), Fail> {
         ("bound a --cert c", Some("c")),
         ("check a c", None),
         ("solve a", None),
+        ("solve a --cert=c=d", Some("c=d")),
+        ("make 1 1", None),
     ] {
         let cert = command(rt.alloc(), words)?.into_certificate();
         assert_eq!(rt; cert.as_deref(), name, "{words}");
@@ -154,6 +203,26 @@ fn first_faulty_words_are_named(rt: HostRuntime) {
         ("bound a --cert=", WordFault::BadValue { word: 3 }),
         ("bound a --cert", WordFault::NoValue { word: 3 }),
         ("bound a --workers 2", WordFault::NoSuchOption { word: 3 }),
+        ("solve a --nodes 20001", WordFault::BadValue { word: 4 }),
+        (
+            "solve a --nodes=5 --nodes 6",
+            WordFault::Repeated { word: 4 },
+        ),
+        ("solve a --cert=-", WordFault::BadValue { word: 3 }),
+        ("solve a --cert", WordFault::NoValue { word: 3 }),
+        ("compile a --nodes 1", WordFault::NoSuchOption { word: 3 }),
+        ("make", WordFault::TooFewWords),
+        ("make 1", WordFault::TooFewWords),
+        ("make - 1", WordFault::BadValue { word: 2 }),
+        (
+            "make 18446744073709551616 1",
+            WordFault::BadValue { word: 2 },
+        ),
+        ("make 1 0", WordFault::BadValue { word: 3 }),
+        ("make 1 1001", WordFault::BadValue { word: 3 }),
+        ("make 1 1 1", WordFault::TooManyWords { word: 4 }),
+        ("make 1 1 --mvp", WordFault::NoSuchOption { word: 4 }),
+        ("make 1 1 --cert c", WordFault::NoSuchOption { word: 4 }),
     ] {
         match command(rt.alloc(), words) {
             Ok(_) => panic!(rt; "{words} is read"),
@@ -201,16 +270,6 @@ fn two_plain_words_are_checked(rt: HostRuntime) {
     assert_eq!(rt;
         fault(rt.alloc(), extract, "a "),
         Some(WordFault::BadName { word: 3 })
-    );
-    let make = every_option(ANY_SEED, Some(SOME_SIZE));
-    assert_eq!(rt; fault(rt.alloc(), make, "18446744073709551615 1000"), None);
-    assert_eq!(rt;
-        fault(rt.alloc(), make, "18446744073709551616 1"),
-        Some(WordFault::BadValue { word: 2 })
-    );
-    assert_eq!(rt;
-        fault(rt.alloc(), make, "0 0"),
-        Some(WordFault::BadValue { word: 3 })
     );
 }
 
