@@ -1,12 +1,11 @@
 -- A place of which more is known leaves the tree as it is.
-use Rattle.std.proofs.Common.{◌≡◌, ℕ, zero, suc, ◌<◌, List, [], ◌∷◌, Option, Some, ◌∙◌, ap, sym, subst, set, get_or, length, refl, arith}
+use Rattle.std.proofs.Common.{◌≡◌, ℕ, zero, suc, ◌<◌, List, [], ◌∷◌, Option, Some, ◌∙◌, ap, sym, subst, set, get_or, length, arith}
 use Rattle.std.specs.Prelude.{All, slice_get}
 use Rattle.std.proofs.lemmas.List.{get_or_default}
 use Rattle.std.proofs.lemmas.List.Elements.{All-set}
 use Rattle.std.proofs.lemmas.Option.{get_or_from_slice_get}
 use Rattle.cert_text.specs.declared.lines.Need.{Need}
 use Rattle.cert_laws.specs.Rules.{Box}
-use Rattle.search_tree.specs.declared.places.Cut.{Cut}
 use Rattle.search_tree.specs.declared.places.Place.{Place}
 use Rattle.search_tree.specs.declared.places.Shown.{Shown}
 use Rattle.search_tree.specs.declared.places.SplitAt.{SplitAt}

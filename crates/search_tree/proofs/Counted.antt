@@ -1,5 +1,5 @@
 -- A tree of chord splits has no more leaves than its root box has points.
-use Rattle.std.proofs.Common.{◌≡◌, ℕ, zero, suc, ◌+◌, ◌-◌, ◌≤◌, ◌<◌, ◌↔◌, List, [], ◌∷◌, Option, Some, None, ap, sym, subst, ◌∙◌, length, true, false, is_some, cond, arith, refl, set, ⊎_elim, ◌≢◌}
+use Rattle.std.proofs.Common.{◌≡◌, ℕ, zero, suc, ◌+◌, ◌-◌, ◌≤◌, List, [], ◌∷◌, Option, Some, None, ap, sym, subst, ◌∙◌, length, true, is_some, cond, arith, refl, set, ⊎_elim, ◌≢◌}
 use Rattle.std.specs.Prelude.{All, IfSome, sum_by, slice_get}
 use Rattle.std.proofs.lemmas.Bool.{cases_eq}
 use Rattle.std.specs.Option.{unwrap_or}
@@ -8,13 +8,13 @@ use Rattle.std.proofs.lemmas.List.{length-set}
 use Rattle.std.proofs.lemmas.List.Elements.{All-cons, All-head, All-nil, All-set, All-tail}
 use Rattle.std.proofs.lemmas.List.Sums.{sum_by-cons}
 use Rattle.flow_graph.specs.Arcs.{TypeValue, numbered}
-use Rattle.flow_graph.specs.Chords.{IsGenuine, high_part, is_chord, low_part, points_of, range_at}
+use Rattle.flow_graph.specs.Chords.{high_part, is_chord, low_part, points_of, range_at}
 use Rattle.flow_graph.specs.Laws.{PointsAreCounted}
 use Rattle.cert_laws.specs.Rules.{Box}
 use Rattle.search_tree.specs.declared.places.Place.{Place}
 use Rattle.search_tree.specs.declared.places.SplitAt.{SplitAt}
 use Rattle.search_tree.specs.Points.{HasOpenChord, IsOpenPlace, OpenTreesHavePoints}
-use Rattle.search_tree.specs.Trees.{Fills, IsSplitOf, SplitsChords, TreeValue, box_of, parts_before, splits_of}
+use Rattle.search_tree.specs.Trees.{Fills, IsSplitOf, box_of, parts_before, splits_of}
 
 module _ (g : List TypeValue) (laws : PointsAreCounted) where
   -- a box with a range for each arc, none of them empty

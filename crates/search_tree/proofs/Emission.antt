@@ -1,12 +1,11 @@
 -- The lines that a tree gives are accepted.
-use Rattle.std.proofs.Common.{◌≡◌, ℕ, zero, suc, ◌+◌, ◌-◌, ◌*◌, ◌≤◌, ◌<◌, Bool, true, false, cond, List, [], ◌∷◌, ◌++◌, map, drop, take, drop-cons, get_or, length, Option, Some, None, is_some, refl, sym, ap, subst, ◌∙◌, arith, ⊎_elim, inl, inr, All, ℤ, pos, ◌+ℤ◌, ◌-ℤ◌, ◌*ℤ◌, ◌<ℤ◌, add-one}
-use Rattle.std.specs.Prelude.{IfSome, sum_by, slice_get}
+use Rattle.std.proofs.Common.{◌≡◌, ℕ, zero, suc, ◌+◌, ◌-◌, ◌≤◌, ◌<◌, false, cond, List, [], ◌∷◌, ◌++◌, drop, take, drop-cons, get_or, length, Option, Some, None, is_some, refl, sym, ap, subst, ◌∙◌, arith, inr, ℤ, pos, ◌+ℤ◌, ◌-ℤ◌, ◌*ℤ◌, add-one}
+use Rattle.std.specs.Prelude.{sum_by}
 use Rattle.std.proofs.Math.IntN.{pos-*ℤ-pos}
 use Rattle.std.proofs.lemmas.Int.{ints}
 use Rattle.std.proofs.lemmas.List.{drop_all, length-map, take_all}
-use Rattle.std.proofs.lemmas.List.Elements.{All-append, All-cons, All-nil}
 use Rattle.std.proofs.lemmas.List.Sums.{sum_by-append, sum_by-cons, sum_by_more}
-use Rattle.packing_laws.specs.Instances.{InstanceValue, IsAmong}
+use Rattle.packing_laws.specs.Instances.{InstanceValue}
 use Rattle.flow_graph.specs.Arcs.{TypeValue, numbered}
 use Rattle.flow_graph.specs.Chords.{IsGenuine, high_part, low_part}
 use Rattle.flow_model.specs.Boxes.{root_range, root_ranges}
@@ -14,7 +13,6 @@ use Rattle.cert_text.specs.declared.lines.Claim.{Claim}
 use Rattle.cert_text.specs.declared.lines.Claim.TheVariants.{Bound, Empty}
 use Rattle.cert_text.specs.declared.lines.CertLine.{CertLine}
 use Rattle.cert_text.specs.declared.lines.CertLine.TheVariants as cert
-use Rattle.cert_text.specs.declared.lines.Need.{Need}
 use Rattle.cert_text.specs.declared.lines.TreeLine.{TreeLine}
 use Rattle.cert_text.specs.declared.lines.TreeLine.TheVariants as line
 use Rattle.cert_text.specs.Lines.{IsClaim, IsGoal}

@@ -1,5 +1,5 @@
 -- A place that is split.
-use Rattle.std.proofs.Common.{◌≡◌, ℕ, zero, suc, ◌+◌, ◌-◌, ◌<◌, ◌≤◌, List, [], ◌∷◌, ◌++◌, Option, Some, None, ◌∙◌, ap, sym, subst, set, insert, get_or, length, refl, arith, true, is_some, cond, add-one, Result, Ok, Err, OnOk, OnErr, ◌⊎◌, inl, inr}
+use Rattle.std.proofs.Common.{◌≡◌, ℕ, zero, suc, ◌+◌, ◌-◌, ◌<◌, ◌≤◌, List, [], ◌∷◌, ◌++◌, Option, Some, None, ◌∙◌, ap, sym, subst, set, insert, get_or, length, refl, arith, true, is_some, cond, Result, Ok, Err, OnOk, OnErr, ◌⊎◌, inl, inr}
 use Rattle.std.specs.Prelude.{All, IfSome, sum_by, slice_get, slice_set}
 use Rattle.std.proofs.lemmas.List.{get_or-append_right, length-append, length-set}
 use Rattle.std.proofs.lemmas.Option.{slice_get_read}

@@ -4,4 +4,3 @@ pub mod Narrower
 pub mod Counted
 pub mod Emission
 pub mod Needs
-pub mod WorkedTree

@@ -1,5 +1,5 @@
 -- Prices are worth no less in a part of a box.
-use Rattle.std.proofs.Common.{◌≡◌, ℕ, ◌+◌, ◌-◌, ◌*◌, ◌≤◌, ◌<◌, List, [], ◌∷◌, get_or, set, length, arith, ⊎_elim, ap, sym, subst, ◌∙◌, All, ℤ, pos, negsuc, ◌+ℤ◌, ◌*ℤ◌, ◌≤ℤ◌}
+use Rattle.std.proofs.Common.{◌≡◌, ℕ, ◌+◌, ◌-◌, ◌≤◌, List, [], ◌∷◌, get_or, set, length, arith, ⊎_elim, ap, sym, subst, ◌∙◌, ℤ, pos, negsuc, ◌≤ℤ◌}
 use Rattle.std.proofs.Math.IntN.{pos-*ℤ-pos, negsuc-*ℤ-pos}
 use Rattle.std.proofs.Math.Nat.{mul-le-mul_left}
 use Rattle.std.proofs.lemmas.Bool.{cases_eq}
@@ -7,10 +7,9 @@ use Rattle.std.proofs.lemmas.Int.{ints}
 use Rattle.std.proofs.lemmas.List.{get_or-set_same, get_or-set_other}
 use Rattle.packing_laws.specs.Instances.{InstanceValue, IsAmong}
 use Rattle.flow_graph.specs.Arcs.{TypeValue}
-use Rattle.flow_graph.specs.Chords.{IsGenuine, high_part, low_part, range_at}
+use Rattle.flow_graph.specs.Chords.{high_part, low_part, range_at}
 use Rattle.cert_text.specs.declared.lines.ArcPrice.{ArcPrice}
 use Rattle.cert_text.specs.declared.lines.Claim.{Claim}
-use Rattle.cert_text.specs.declared.lines.Prices.{Prices}
 use Rattle.path_prices.specs.Worth.{IsEnough, arcs_worth, bound, empty, least_worth, worth_of}
 use Rattle.cert_laws.specs.Rules.{Box, demands_of}
 use Rattle.search_tree.specs.declared.places.Shown.{Shown}

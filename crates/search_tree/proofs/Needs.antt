@@ -6,7 +6,6 @@ use Rattle.packing_laws.specs.Instances.{InstanceValue}
 use Rattle.flow_graph.specs.Arcs.{TypeValue, numbered}
 use Rattle.cert_text.specs.declared.lines.Claim.{Claim}
 use Rattle.cert_text.specs.declared.lines.Need.{Need}
-use Rattle.cert_text.specs.declared.lines.TreeLine.{TreeLine}
 use Rattle.cert_text.specs.declared.lines.TreeLine.TheVariants as line
 use Rattle.cert_text.specs.Lines.{IsNeed}
 use Rattle.cert_laws.specs.Needs.{IsNeeded}

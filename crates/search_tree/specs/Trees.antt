@@ -6,12 +6,12 @@ use Rattle.flow_graph.specs.Arcs.{TypeValue, numbered}
 use Rattle.flow_graph.specs.Chords.{IsGenuine, high_part, is_chord, low_part, range_at}
 use Rattle.cert_text.specs.declared.lines.Claim.{Claim}
 use Rattle.cert_text.specs.declared.lines.Claim.TheVariants.{Bound, Empty}
-use Rattle.cert_text.specs.declared.lines.Need.{Need}
 use Rattle.cert_text.specs.declared.lines.TreeLine.{TreeLine}
 use Rattle.cert_text.specs.declared.lines.TreeLine.TheVariants as line
 use Rattle.cert_text.specs.Lines.{ArePrices, IsClaim, IsNeed}
 use Rattle.cert_laws.specs.Rules.{Box, NamesArcs, NamesItems}
 use Rattle.cert_laws.specs.Shown.{Closes}
+use Rattle.search_tree.specs.declared.lines.TheConstants.{MAX_PARTS}
 use Rattle.search_tree.specs.declared.places.Cut.{Cut}
 use Rattle.search_tree.specs.declared.places.Place.{Place}
 use Rattle.search_tree.specs.declared.places.Shown.{Shown}
@@ -101,6 +101,13 @@ splits_box (line.Step dim step) = false
 -- how many lines split their box
 abbrev pub splits_in : List TreeLine → ℕ
 splits_in lines = sum_by (λ l. if splits_box l then 1 else 0) lines
+
+-- a line that carries no need, or one of few parts
+abbrev pub HasFewParts : TreeLine → Type 0
+HasFewParts (line.Split a k) = Unit {0}
+HasFewParts (line.Needed a k need) = length need.parts ≤ MAX_PARTS
+HasFewParts (line.Leaf prices) = Unit {0}
+HasFewParts (line.Step dim step) = Unit {0}
 
 -- a place that is not split, with one cut more than another, of which this is known
 abbrev pub part_place : Place → ℕ → ℕ × ℕ → Shown → Place

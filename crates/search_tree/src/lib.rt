@@ -5,11 +5,9 @@ mod copies;
 mod laws;
 mod lines;
 mod places;
-#[cfg(test)]
-mod tests;
 mod tree;
 
 pub use laws::{open_trees_have_points, parts_are_shown};
-pub use lines::{Target, reaches, tree_certificate};
+pub use lines::{MAX_PARTS, Target, reaches, tree_certificate};
 pub use places::{Cut, Place, Shown, SplitAt};
 pub use tree::Tree;

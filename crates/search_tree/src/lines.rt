@@ -1,6 +1,6 @@
 //! The certificate that a tree makes.
 
-ghost use Rattle.std.specs.Prelude.{◌≡◌, ◌↔◌, ◌<◌, ◌≤◌, false, true, IfOk, IfSome, IsNone, IsTrue, None, Some, length, slice_get, if◌then◌else◌};
+ghost use Rattle.std.specs.Prelude.{◌≡◌, ◌↔◌, ◌<◌, ◌≤◌, false, true, All, IfOk, IfSome, IsNone, IsTrue, None, Some, length, slice_get, if◌then◌else◌};
 ghost use Rattle.flow_graph.specs.Faithful.{GraphOf};
 ghost use Rattle.flow_model.specs.Boxes.{root_ranges};
 ghost use Rattle.cert_text.specs.Lines.{IsClaim, IsGoal, lines_of};
@@ -8,7 +8,7 @@ ghost use Rattle.cert_laws.specs.Needs.{IsNeeded};
 ghost use Rattle.cert_laws.specs.Shown.{IsCertified};
 ghost use Rattle.needs_check.specs.Rooms.{IsNeedRoomOf};
 ghost use Rattle.search_tree.specs.declared.places.Place.{Place};
-ghost use Rattle.search_tree.specs.Trees.{AreShown, KeepsNeeds, LeavesReach, Reaches, box_of, splits_box, splits_in, splits_of};
+ghost use Rattle.search_tree.specs.Trees.{AreShown, HasFewParts, KeepsNeeds, LeavesReach, Reaches, box_of, splits_box, splits_in, splits_of};
 ghost use Rattle.search_tree.specs.inner.Emitted.{IsLineOf, MakesLeaf, IsSplitLine, IsWritten, parts_of};
 
 use crate::copies::{need_again, prices_again};
@@ -21,6 +21,10 @@ use needs_check::{NeedRoom, check_need};
 use packing_laws::Instance;
 use std::alloc::Global;
 
+/// How many parts a need may have that a line carries. So the text of a tree with as many splits as there may be is no longer than
+/// a certificate may be.
+pub const MAX_PARTS: usize = 500_000;
+
 /// What the certificate of a tree is to show.
 #[derive(Clone, Copy, Debug, PartialEq, Eq)]
 pub struct Target {
@@ -31,7 +35,7 @@ pub struct Target {
 }
 
 /// The certificate of version 2 that a tree makes for a claim that each of its leaves shows. Splits carry their needs where these
-/// hold for the goal.
+/// hold for the goal and have few parts.
 pub fn tree_certificate(
     alloc: Global,
     instance: &Instance,
@@ -50,6 +54,7 @@ pub fn tree_certificate(
     ensures certified { IfOk result (λ c. IsCertified instance.now graph.now (lines_of c) target.claim) }
     ensures fewer { IfOk result (λ c. splits_in c.lines ≤ splits_of tree.now.places) }
     ensures all { target.is_pruned ≡ false → IfOk result (λ c. splits_in c.lines ≡ splits_of tree.now.places) }
+    ensures parts { IfOk result (λ c. All HasFewParts c.lines) }
 {
     instance.known();
     graph.known();
@@ -78,7 +83,8 @@ fn tree_lines(
     requires needs { KeepsNeeds graph.now tree.now }
     requires reached { LeavesReach target.claim tree.now }
     requires room { IsNeedRoomOf graph.now room }
-    ensures { IfOk result (λ lines. IsWritten instance.now graph.now target tree.now lines) }
+    ensures written { IfOk result (λ lines. IsWritten instance.now graph.now target tree.now lines) }
+    ensures parts { IfOk result (λ lines. All HasFewParts lines) }
 {
     tree.known();
     let mut lines = Listed::empty(alloc);
@@ -132,6 +138,7 @@ fn line_at(
     requires reached { LeavesReach target.claim tree.now }
     requires room { IsNeedRoomOf graph.now room.old }
     ensures line { IfOk result (λ l. (p : Place) → slice_get tree.now.places index ≡ Some p → IsLineOf instance.now graph.now (box_of tree.now.root p) target p l) }
+    ensures parts { IfOk result HasFewParts }
     ensures room { IsNeedRoomOf graph.now room.new }
 {
     let place = &tree.places()[index];
@@ -153,7 +160,7 @@ fn told_split(place: &Place, target: Target) -> Option<SplitAt>
     }
 }
 
-// The line of a split, with its need where that holds for the goal.
+// The line of a split, with its need where that holds for the goal and has few parts.
 fn split_line(
     instance: &Instance,
     graph: &FlowGraph,
@@ -169,14 +176,17 @@ fn split_line(
     requires needs { KeepsNeeds graph.now tree.now }
     requires room { IsNeedRoomOf graph.now room.old }
     ensures line { IfOk result (λ l. (p : Place) → slice_get tree.now.places index ≡ Some p → IsSplitLine instance.now graph.now (box_of tree.now.root p) goal split l) }
+    ensures parts { IfOk result HasFewParts }
     ensures room { IsNeedRoomOf graph.now room.new }
 {
     let SplitAt { arc, k } = split;
     if let Some(need) = &tree.places()[index].need {
-        let ranges = tree.box_at(index)?;
-        if check_need(instance, graph, &ranges, goal, need, room) {
-            let need = need_again(need)?;
-            return Ok(TreeLine::Needed { arc, k, need });
+        if need.parts.as_slice().len() <= MAX_PARTS {
+            let ranges = tree.box_at(index)?;
+            if check_need(instance, graph, &ranges, goal, need, room) {
+                let need = need_again(need)?;
+                return Ok(TreeLine::Needed { arc, k, need });
+            }
         }
     }
     Ok(TreeLine::Split { arc, k })

@@ -1,16 +1,15 @@
 -- Accepted lines are spelled in their places.
-use Rattle.std.proofs.Common.{◌≡◌, ℕ, ◌+◌, ◌≤◌, ◌<◌, true, false, List, [], ◌∷◌, ◌++◌, length, All, refl, sym, ap, subst, ◌∙◌, ⊎_elim, arith}
+use Rattle.std.proofs.Common.{◌≡◌, ℕ, true, false, List, [], ◌∷◌, All, sym, ◌∙◌, ⊎_elim, arith}
 use Rattle.std.proofs.lemmas.List.{append-nil}
 use Rattle.std.proofs.lemmas.List.Elements.{All-head, All-tail}
 use Rattle.packing_laws.specs.Instances.{InstanceValue}
 use Rattle.flow_graph.specs.Arcs.{TypeValue}
 use Rattle.cert_text.specs.declared.lines.CertLine.{CertLine}
 use Rattle.cert_text.specs.Lines.{IsInPlace, lines_of}
-use Rattle.cert_text.specs.Spelled.{IsNarrowLine, IsSpelled}
-use Rattle.cert_text.specs.Spelling.{certificate_text_of, text_of}
-use Rattle.cert_laws.specs.declared.causes.Cause.{Cause}
+use Rattle.cert_text.specs.Spelled.{IsNarrowLine}
+use Rattle.cert_text.specs.Spelling.{certificate_text_of}
 use Rattle.cert_laws.specs.declared.causes.Cause.TheVariants as cause
-use Rattle.cert_laws.specs.Rules.{AreAccepted, IsAccepted, KeepsRule, Progress, after_line, at_start, causes_of}
+use Rattle.cert_laws.specs.Rules.{AreAccepted, IsAccepted, Progress, after_line, at_start}
 use Rattle.cert_stream.specs.Verdicts.{AreInPlace, IsLong}
 use Rattle.written_verdicts.specs.Written.{WrittenIsShown}
 
@@ -18,7 +17,7 @@ use Rattle.written_verdicts.specs.Written.{WrittenIsShown}
 still_open : (I : InstanceValue) (g : List TypeValue) (p : Progress) (line : CertLine) → IsAccepted I g p line → p.ended ≡ false
 still_open I g p line all = (all 1 cause.Extra (omega arith)).0
 
-in_place : (I : InstanceValue) (g : List TypeValue) (p : Progress) (line : CertLine) → IsAccepted I g p line → IsInPlace p.count p.version line
+pub in_place : (I : InstanceValue) (g : List TypeValue) (p : Progress) (line : CertLine) → IsAccepted I g p line → IsInPlace p.count p.version line
 in_place I g p line all = ⊎_elim
     (λ (ended : p.ended ≡ true). absurd (let bad : true ≡ false = sym ended ∙ still_open I g p line all in cc))
     (λ place. place)

@@ -1,8 +1,7 @@
 -- The lines of a certificate that the places of a tree give.
-use Rattle.std.specs.Prelude.{◌≡◌, ℕ, ◌+◌, ◌≤◌, Bool, false, List, [], ◌++◌, Option, None, Some, All, length, map, drop, take}
+use Rattle.std.specs.Prelude.{◌≡◌, ℕ, ◌≤◌, false, List, [], ◌++◌, Option, None, Some, All, length, map, drop, take}
 use Rattle.packing_laws.specs.Instances.{InstanceValue}
 use Rattle.flow_graph.specs.Arcs.{TypeValue, numbered}
-use Rattle.cert_text.specs.declared.lines.Claim.{Claim}
 use Rattle.cert_text.specs.declared.lines.Need.{Need}
 use Rattle.cert_text.specs.declared.lines.TreeLine.{TreeLine}
 use Rattle.cert_text.specs.declared.lines.TreeLine.TheVariants as line

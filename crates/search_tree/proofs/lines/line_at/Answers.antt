@@ -1,12 +1,11 @@
-use Rattle.std.proofs.Common.{◌≡◌, ℕ, List, Option, Some, is_some, get_or, sym, subst, ◌∙◌, ap}
+use Rattle.std.proofs.Common.{◌≡◌, List, Option, Some, is_some, get_or, sym, subst, ◌∙◌, ap}
 use Rattle.std.proofs.lemmas.Result.{IfOk-weaker}
 use Rattle.std.specs.Prelude.{IfSome}
 use Rattle.cert_text.specs.declared.lines.Prices.{Prices}
 use Rattle.cert_text.specs.declared.lines.TreeLine.TheVariants as line
 use Rattle.search_tree.specs.declared.places.SplitAt.{SplitAt}
 use Rattle.search_tree.specs.declared.places.Place.{Place}
-use Rattle.search_tree.specs.Trees.{box_of}
-use Rattle.search_tree.specs.inner.Emitted.{IsLineOf, IsSplitLine, MakesLeaf, leaf, split}
+use Rattle.search_tree.specs.inner.Emitted.{MakesLeaf, leaf, split}
 use Rattle.search_tree.proofs.Changes.{same_place}
 use Rattle.search_tree.proofs.Needs.{leaf_reaches}
 use Rattle.search_tree.proofs.lines.line_at.Goals as goal

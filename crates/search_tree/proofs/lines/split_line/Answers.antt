@@ -1,5 +1,4 @@
-use Rattle.std.proofs.Common.{◌≡◌, ℕ, List, Option, Some, get_or, sym, subst, ◌∙◌, ap}
-use Rattle.cert_text.specs.declared.lines.Need.{Need}
+use Rattle.std.proofs.Common.{◌≡◌, List, Some, get_or, sym, subst, ◌∙◌, ap}
 use Rattle.cert_laws.specs.Needs.{IsNeeded}
 use Rattle.cert_laws.specs.Rules.{Box}
 use Rattle.search_tree.specs.declared.places.Place.{Place}

@@ -1,4 +1,4 @@
-use Rattle.std.proofs.Common.{◌≡◌, ◌+◌, ◌<◌, suc, List, arith, rules, subst, insert, set, get_or, sym, ap, ◌∙◌, length, add-one, Some, refl}
+use Rattle.std.proofs.Common.{◌≡◌, ◌+◌, suc, List, arith, subst, insert, set, get_or, sym, ap, ◌∙◌, add-one, Some}
 use Rattle.search_tree.specs.declared.places.Place.{Place}
 use Rattle.search_tree.specs.inner.Spread.{IsSpread}
 use Rattle.search_tree.proofs.Growing.{spread}

@@ -1,5 +1,4 @@
-use Rattle.std.proofs.Common.{◌≡◌, ap, Some, None, rules, set, sym}
-use Rattle.search_tree.specs.declared.places.Place.{Place}
+use Rattle.std.proofs.Common.{◌≡◌, Some, rules}
 use Rattle.search_tree.proofs.Changes.{tree_shown, same_place}
 use Rattle.search_tree.proofs.tree.Tree.keep_need.Goals as goal
 

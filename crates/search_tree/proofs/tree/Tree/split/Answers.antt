@@ -1,4 +1,4 @@
-use Rattle.std.proofs.Common.{◌≡◌, ℕ, rules, List, length, All, Some, None, sym, subst, ap, arith, ⊎_elim}
+use Rattle.std.proofs.Common.{◌≡◌, ℕ, List, sym, subst, ap, arith, ⊎_elim}
 use Rattle.std.proofs.lemmas.Option.{slice_get_cases}
 use Rattle.flow_graph.specs.Chords.{IsGenuine}
 use Rattle.std.proofs.lemmas.Result.{on_ok_weaker}
@@ -6,9 +6,9 @@ use Rattle.cert_laws.specs.Rules.{Box}
 use Rattle.search_tree.specs.declared.places.Place.{Place}
 use Rattle.search_tree.specs.declared.places.Shown.{Shown}
 use Rattle.search_tree.specs.declared.places.SplitAt.{SplitAt}
-use Rattle.search_tree.specs.Trees.{IsGrown, IsTree, TreeValue, box_of}
+use Rattle.search_tree.specs.Trees.{IsTree, TreeValue}
 use Rattle.search_tree.specs.inner.Spread.{IsSplitInto}
-use Rattle.search_tree.proofs.Growing.{either, grown_chords, grown_needs, place_read, split_grown, split_more, split_tree}
+use Rattle.search_tree.proofs.Growing.{either, grown_chords, grown_needs, split_grown, split_more, split_tree}
 use Rattle.search_tree.proofs.tree.Tree.split.Goals as goal
 
 pub split_place-requires-clause-genuine : goal.split_place-requires-clause-genuine
