@@ -6,6 +6,7 @@ use Rattle.flow_graph.specs.Arcs.{TypeValue, numbered}
 use Rattle.flow_model.specs.Flows.{AreConserved}
 use Rattle.cert_text.specs.declared.lines.Prices.{Prices}
 use Rattle.cert_text.specs.declared.lines.Need.{Need}
+use Rattle.cert_text.specs.declared.lines.Claim.{Claim}
 use Rattle.cert_text.specs.declared.lines.Claim.TheVariants.{Bound}
 use Rattle.cert_text.specs.declared.lines.TreeLine.TheVariants.{Leaf}
 use Rattle.cert_text.specs.Lines.{ArePrices, IsNeed}
@@ -13,6 +14,14 @@ use Rattle.cert_laws.specs.Needs.{parts_of}
 use Rattle.cert_laws.specs.Rules.{Box, NamesArcs, NamesItems}
 use Rattle.cert_laws.specs.Shown.{Closes}
 use Rattle.column_master.specs.declared.master.NodePrices.{NodePrices}
+
+-- prices that close a box for a claim: a line can tell them, their items and arcs exist, no bin gains more than it costs, and
+-- what they are worth there is enough
+pub record AreClosing (I : InstanceValue) (g : List TypeValue) (box : Box) (claim : Claim) (p : Prices) : Type 0 where
+  pub prices : ArePrices p
+  pub items : NamesItems I (Leaf p)
+  pub arcs : NamesArcs g (Leaf p)
+  pub closes : Closes I g p box claim
 
 -- prices of a box: a line can tell them, their items and arcs exist, no bin gains more than it costs, and what they are worth
 -- there closes the box for the material bound

@@ -10,6 +10,8 @@ use packing_laws::Instance;
 use simplex_basis::Price;
 use std::alloc::Global;
 
+mod rounding;
+
 /// Prices that no test has seen: of items, by number, the place 0 for what carries nothing; and of arcs, of which one may
 /// stand more than once, and then its prices add up.
 #[derive(Debug, Drop)]
@@ -26,6 +28,9 @@ pub(crate) struct Excess {
     /// The number of the bin arc.
     pub arc: u32,
     pub cost: u32,
+    /// The greatest price of a path.
+    pub path: i128,
+    /// The same and the price of the bin arc.
     pub gain: i128,
 }
 
@@ -87,6 +92,11 @@ impl Draft {
             listed.price >>= bits;
         }
         bits
+    }
+
+    /// Whether a path over so many arcs may have a price of 2^60 or more.
+    pub(crate) fn is_large(&self, hops: u32) -> bool {
+        spare_bits(self.greatest(), hops) > 0
     }
 
     fn greatest(&self) -> u64 {
@@ -190,6 +200,7 @@ impl Excess {
         Excess {
             arc: graph.arcs_of(bin_type).map_or(0, |numbers| numbers.0),
             cost: instance.bin_type(bin_type).map_or(0, |found| found.cost),
+            path: i128::from(path),
             gain: i128::from(own) + i128::from(path),
         }
     }

@@ -1,25 +1,44 @@
-//! Flows in fractions, tested at each node.
+//! Flows in fractions, tested at each node, and those that show a need.
 
-ghost use Rattle.std.specs.Prelude.{◌≡◌, ◌↔◌, ◌+◌, ◌<◌, ◌≤◌, All, IfOk, IsTrue, length};
+ghost use Rattle.std.specs.Prelude.{◌≡◌, ◌↔◌, ◌+◌, ◌<◌, ◌≤◌, All, IfOk, IfSome, IsTrue, length};
 ghost use Rattle.flow_graph.specs.Arcs.{numbered};
 ghost use Rattle.flow_graph.specs.Faithful.{GraphOf};
 ghost use Rattle.flow_model.specs.Flows.{AreConserved};
 ghost use Rattle.flow_model.specs.Tallies.{IsTallyOf};
 ghost use Rattle.cert_text.specs.Lines.{IsBetween};
+ghost use Rattle.cert_laws.specs.Needs.{IsNeeded};
+ghost use Rattle.needs_check.specs.Rooms.{IsNeedRoomOf};
 ghost use Rattle.needs_check.specs.inner.Laid.{HoldsParts};
 ghost use Rattle.needs_check.specs.inner.Rows.{names_no_node};
 ghost use Rattle.column_master.specs.NodePrices.{IsFlowOf};
 ghost use Rattle.column_master.specs.inner.Listings.{AreListed, HoldsFirst};
 
-use crate::relaxation::{Chosen, Relaxation};
+use crate::relaxation::Relaxation;
 use arc_num::{Listed, MAX_NUMBERED, MAX_PRICE, Memory};
 use cert_text::{ArcPart, Need};
-use column_pool::{ColumnPool, Way};
+use column_pool::ColumnPool;
 use flow_graph::FlowGraph;
-use flow_model::{Flow, FlowRow, Tally, first_bad};
+use flow_model::{Flow, FlowBox, FlowRow, Tally, first_bad};
+use forms::{FORMS, Form, is_hopeless, takings_in};
+use needs_check::{NeedRoom, check_need};
 use packing_laws::Instance;
-use simplex_basis::{ONE, POINT};
 use std::alloc::Global;
+use takings::{Takings, add_takings, plain_takings};
+
+mod exact;
+mod fitting;
+mod forms;
+mod fractions;
+mod margins;
+mod refining;
+mod takings;
+
+/// The program that a flow is read from, and the pool of its columns.
+#[derive(Clone, Copy)]
+pub(crate) struct Solved<'a> {
+    pub pool: &'a ColumnPool,
+    pub relaxation: &'a Relaxation,
+}
 
 /// The columns of a solution as a flow in parts of one in a scale: 2^40, or less where there are too many bins. Nothing flows
 /// where the sums are not what they should be.
@@ -27,8 +46,7 @@ pub(crate) fn flow_of(
     alloc: Global,
     instance: &Instance,
     graph: &FlowGraph,
-    pool: &ColumnPool,
-    relaxation: &Relaxation,
+    solved: Solved<'_>,
     tally: &mut Tally,
 ) -> Result<Need, Memory>
     requires graph { GraphOf instance.now graph.now }
@@ -36,15 +54,94 @@ pub(crate) fn flow_of(
     ensures flow { IfOk result (IsFlowOf graph.now) }
     ensures tally { IsTallyOf graph.now tally.new }
 {
-    let mut chosen = Vec::new(alloc);
-    relaxation.push_solution(&mut chosen)?;
-    let bits = spare_bits(chosen.as_slice());
+    let takings = plain_takings(alloc, solved.relaxation)?;
+    flow_along(alloc, instance, graph, solved.pool, &takings, tally)
+}
+
+/// A flow of a program that shows that no prices close the box for the goal: the first form of its solution that holds.
+pub(crate) fn need_of(
+    alloc: Global,
+    instance: &Instance,
+    graph: &FlowGraph,
+    solved: Solved<'_>,
+    ranges: &FlowBox,
+    goal: Option<u64>,
+    tally: &mut Tally,
+) -> Result<Option<Need>, Memory>
+    requires graph { GraphOf instance.now graph.now }
+    requires ranges { length ranges.now ≡ length (numbered graph.now) }
+    requires tally { IsTallyOf graph.now tally.old }
+    ensures flow { IfOk result (λ found. IfSome found (IsFlowOf graph.now)) }
+    ensures needed { IfOk result (λ found. IfSome found (IsNeeded instance.now graph.now ranges.now goal)) }
+    ensures tally { IsTallyOf graph.now tally.new }
+{
+    if is_hopeless(solved.relaxation, goal) {
+        return Ok(None);
+    }
+    let mut room = NeedRoom::new(alloc, graph, instance)?;
+    for form in FORMS {
+        let found = need_in(
+            alloc, instance, graph, solved, ranges, goal, form, tally, &mut room,
+        )?;
+        if let Some(need) = found {
+            return Ok(Some(need));
+        }
+    }
+    Ok(None)
+}
+
+/// The solution in one form, where it is a flow that shows the need.
+fn need_in(
+    alloc: Global,
+    instance: &Instance,
+    graph: &FlowGraph,
+    solved: Solved<'_>,
+    ranges: &FlowBox,
+    goal: Option<u64>,
+    form: Form,
+    tally: &mut Tally,
+    room: &mut NeedRoom,
+) -> Result<Option<Need>, Memory>
+    requires graph { GraphOf instance.now graph.now }
+    requires ranges { length ranges.now ≡ length (numbered graph.now) }
+    requires tally { IsTallyOf graph.now tally.old }
+    requires room { IsNeedRoomOf graph.now room.old }
+    ensures flow { IfOk result (λ found. IfSome found (IsFlowOf graph.now)) }
+    ensures needed { IfOk result (λ found. IfSome found (IsNeeded instance.now graph.now ranges.now goal)) }
+    ensures tally { IsTallyOf graph.now tally.new }
+    ensures room { IsNeedRoomOf graph.now room.new }
+{
+    let Some(takings) = takings_in(alloc, graph, solved, ranges, form)? else {
+        return Ok(None);
+    };
+    let need = flow_along(alloc, instance, graph, solved.pool, &takings, tally)?;
+    if check_need(instance, graph, ranges, goal, &need, room) {
+        return Ok(Some(need));
+    }
+    Ok(None)
+}
+
+/// Columns as a flow, each as often as it is taken. Nothing flows where the sums are not what they should be.
+fn flow_along(
+    alloc: Global,
+    instance: &Instance,
+    graph: &FlowGraph,
+    pool: &ColumnPool,
+    takings: &Takings,
+    tally: &mut Tally,
+) -> Result<Need, Memory>
+    requires graph { GraphOf instance.now graph.now }
+    requires tally { IsTallyOf graph.now tally.old }
+    ensures flow { IfOk result (IsFlowOf graph.now) }
+    ensures tally { IsTallyOf graph.now tally.new }
+{
     let mut values = vec![in alloc; 0; graph.arc_count() as usize]?;
-    add_columns(graph, pool, chosen.as_slice(), bits, values.as_mut_slice());
+    let columns = takings.columns.as_slice();
+    add_takings(graph, pool, columns, values.as_mut_slice());
     let flow = Flow {
         values: Listed::new(values),
     };
-    tested(alloc, instance, graph, &flow, (ONE as u64) >> bits, tally)
+    tested(alloc, instance, graph, &flow, takings.scale, tally)
 }
 
 /// The values in parts of one in a scale where they are conserved, and else nothing.
@@ -154,53 +251,4 @@ fn list_part(listed: &mut Listed<ArcPart>, values: &[u64], index: usize) -> Resu
         value,
     })?;
     Ok(())
-}
-
-/// So many last bits of the levels are left out that no arc carries more than a part can tell.
-fn spare_bits(chosen: &[Chosen]) -> u32
-    ensures { result ≤ 40 }
-{
-    let mut total = 0i128;
-    for column in chosen {
-        total = total.saturating_add(column.level.value());
-    }
-    for bits in 0..POINT {
-        if total >> bits <= i128::from(MAX_PRICE) {
-            return bits;
-        }
-    }
-    POINT
-}
-
-/// Adds each column to the values of its arcs and of its bin arc, as often as it is taken.
-fn add_columns(
-    graph: &FlowGraph,
-    pool: &ColumnPool,
-    chosen: &[Chosen],
-    bits: u32,
-    values: &mut [u64],
-)
-    requires { bits ≤ 40 }
-{
-    for column in chosen {
-        if let Some((way, _)) = pool.get(column.column) {
-            let level = u64::try_from(column.level.value() >> bits).unwrap_or(0);
-            add_way(graph, way, level, values);
-        }
-    }
-}
-
-fn add_way(graph: &FlowGraph, way: &Way, level: u64, values: &mut [u64]) {
-    if let Some((bin, _)) = graph.arcs_of(way.bin_type) {
-        add_value(values, bin as usize, level);
-    }
-    for arc in way.arcs.as_slice() {
-        add_value(values, *arc as usize, level);
-    }
-}
-
-fn add_value(values: &mut [u64], arc: usize, level: u64) {
-    if arc > 0 && arc <= values.len() {
-        values[arc - 1] = values[arc - 1].saturating_add(level);
-    }
 }

@@ -67,7 +67,7 @@ impl Progress {
         }
     }
 
-    fn keep(&mut self, shown: Shown) {
+    pub(crate) fn keep(&mut self, shown: Shown) {
         match shown.bound {
             None => {
                 self.is_empty = true;
@@ -93,14 +93,14 @@ struct Round {
 /// The columns that were ever found, and room to find more.
 #[derive(Drop)]
 pub(crate) struct Generator {
-    alloc: Global,
+    pub(crate) alloc: Global,
     pub(crate) pool: ColumnPool,
     pub(crate) passes: Passes,
     pub(crate) item_rows: Vec<Option<u32>>,
     /// The own price of each arc, by its number less 1; 0 between the rounds.
     pub(crate) own: Vec<i64>,
     /// In a dive the rest of the demand of each item, by number; else nothing.
-    rest: Vec<u32>,
+    pub(crate) rest: Vec<u32>,
     /// The best path through each item, by number.
     through: Vec<Option<Through>>,
     /// A first basis.
@@ -108,7 +108,7 @@ pub(crate) struct Generator {
     /// The columns that were awake last.
     awake: Vec<usize>,
     /// Arcs on a path of any type, at most.
-    hops: u32,
+    pub(crate) hops: u32,
     most_cost: u32,
 }
 
@@ -131,11 +131,24 @@ impl Generator {
             through: vec![in alloc; None; items]?,
             seeds: Vec::new(alloc),
             awake: Vec::new(alloc),
-            hops: nodes,
+            hops: 0,
             most_cost: most_cost(instance),
         };
+        generator.count_hops(graph);
         generator.seed(alloc, instance, graph)?;
         Ok(generator)
+    }
+
+    /// Counts the arcs on the longest path.
+    fn count_hops(&mut self, graph: &FlowGraph) {
+        self.own.as_mut_slice().fill(1);
+        for index in 0..graph.type_count() {
+            let bin_type = index.saturating_add(1);
+            let field = field_of(graph, bin_type, self.own.as_slice());
+            let longest = self.passes.go_ahead(field, [].as_slice(), [].as_slice());
+            self.hops = self.hops.max(u32::try_from(longest).unwrap_or(0));
+        }
+        self.own.as_mut_slice().fill(0);
     }
 
     /// The program of a box, started from the names of a basis, or from the first one where there are none.
@@ -192,7 +205,11 @@ impl Generator {
                 return Ok(end);
             }
             if woken == 0 {
-                return Ok(end_without_gain(relaxation));
+                if relaxation.is_dive() || !relaxation.sharpen() {
+                    self.lift(instance, graph, relaxation, progress)?;
+                    return Ok(end_without_gain(relaxation, progress, effort.cut));
+                }
+                relaxation.invert()?;
             }
         }
         Ok(Ended::Stopped)
@@ -217,8 +234,10 @@ fn end_shown(relaxation: &Relaxation, progress: &Progress, cut: u64) -> Option<E
     None
 }
 
-fn end_without_gain(relaxation: &Relaxation) -> Ended {
-    if relaxation.is_feasible() {
+fn end_without_gain(relaxation: &Relaxation, progress: &Progress, cut: u64) -> Ended {
+    if progress.bound >= cut {
+        Ended::Cut
+    } else if relaxation.is_feasible() {
         Ended::Solved
     } else {
         Ended::Stopped
@@ -226,9 +245,20 @@ fn end_without_gain(relaxation: &Relaxation) -> Ended {
 }
 
 /// A value in units of 2^-40, less what rounding may do, in whole units rounded up.
-fn rounded_up(value: i128) -> i128 {
+pub(crate) fn rounded_up(value: i128) -> i128 {
     let less = value.saturating_sub(value >> 30);
     less.saturating_add(i128::from(ONE) - 1) >> POINT
+}
+
+/// What the columns cost, rounded up, where rounding alone does not explain that it is above the bound; else 0.
+pub(crate) fn cost_beyond(relaxation: &Relaxation, bound: u64) -> u64 {
+    match relaxation.value() {
+        Some(value) if relaxation.is_feasible() && rounded_up(value) > i128::from(bound) => {
+            let above = value.saturating_add(i128::from(ONE) - 1) >> POINT;
+            u64::try_from(above).unwrap_or(0)
+        }
+        _ => 0,
+    }
 }
 
 /// The bits behind the point of prices: so many that a cost has no more than 52 with them.

@@ -10,6 +10,7 @@ mod passes;
 mod prices;
 mod relaxation;
 mod rows;
+mod scales;
 mod seeds;
 mod ways;
 
@@ -17,6 +18,3 @@ pub use generator::{Effort, Ended, Outlook};
 pub use master::{Master, NodePrices};
 pub use relaxation::{BasicName, Chosen, Relaxation};
 pub use rows::{MasterRow, RowName};
-
-#[cfg(test)]
-mod tests;

@@ -1,12 +1,13 @@
 //! The master, which prices the boxes of a search.
 
 use crate::drafts::Draft;
-use crate::flows::{flow_of, nothing};
-use crate::generator::{Effort, Ended, Generator, Outlook, Progress};
-use crate::prices::valid_prices;
+use crate::flows::{Solved, flow_of, need_of, nothing};
+use crate::generator::{Effort, Ended, Generator, Outlook, Progress, cost_beyond};
+use crate::prices::{closing_prices, valid_prices};
 use crate::relaxation::{BasicName, Relaxation};
+use crate::rows::rows_of;
 use arc_num::Memory;
-use cert_text::{Need, Prices};
+use cert_text::{Claim, Need, Prices};
 use column_pool::ColumnPool;
 use flow_graph::FlowGraph;
 use flow_model::{FlowBox, Tally};
@@ -49,10 +50,12 @@ impl<'a> Model for Master<'a> {
 }
 
 impl<'a> Master<'a> {
-    ghost use Rattle.std.specs.Prelude.{◌≡◌, IfOk, length};
+    ghost use Rattle.std.specs.Prelude.{◌≡◌, IfOk, IfSome, length};
     ghost use Rattle.flow_graph.specs.Arcs.{numbered};
     ghost use Rattle.flow_graph.specs.Faithful.{IsFaithful};
-    ghost use Rattle.column_master.specs.NodePrices.{AreNodePrices, IsFlowOf};
+    ghost use Rattle.cert_text.specs.Lines.{IsClaim};
+    ghost use Rattle.cert_laws.specs.Needs.{IsNeeded};
+    ghost use Rattle.column_master.specs.NodePrices.{AreClosing, AreNodePrices, IsFlowOf};
 
     /// A master with the columns of a first basis.
     pub fn new(
@@ -115,6 +118,58 @@ impl<'a> Master<'a> {
         Ok(NodePrices { prices, flow })
     }
 
+    /// A flow in fractions that shows that no prices close the box that was priced last for the goal; without a goal, that none
+    /// show it empty. Several are tried: the solution in exact fractions, with margins, and as it stands. For another box it
+    /// rarely finds one. What shows the need for a goal shows it for each greater goal.
+    pub fn need(&mut self, ranges: &FlowBox, goal: Option<u64>) -> Result<Option<Need>, Memory>
+        requires { length ranges.now ≡ length (numbered self.old.graph) }
+        ensures same { self.new ≡ self.old }
+        ensures flow { IfOk result (λ found. IfSome found (IsFlowOf self.old.graph)) }
+        ensures needed { IfOk result (λ found. IfSome found (IsNeeded self.old.instance self.old.graph ranges.now goal)) }
+    {
+        match &self.relaxation {
+            Some(relaxation) => need_of(
+                self.alloc,
+                self.instance,
+                self.graph,
+                Solved {
+                    pool: &self.generator.pool,
+                    relaxation,
+                },
+                ranges,
+                goal,
+                &mut self.tally,
+            ),
+            None => Ok(None),
+        }
+    }
+
+    /// Prices that close a box for the claim: in small numbers where such are found, else the given ones.
+    pub fn shorten(
+        &mut self,
+        ranges: &FlowBox,
+        prices: Prices,
+        claim: &Claim,
+    ) -> Result<Prices, Memory>
+        requires ranges { length ranges.now ≡ length (numbered self.old.graph) }
+        requires claim { IsClaim claim.now }
+        requires given { AreClosing self.old.instance self.old.graph ranges.now claim.now prices }
+        ensures same { self.new ≡ self.old }
+        ensures closing { IfOk result (AreClosing self.old.instance self.old.graph ranges.now claim.now) }
+    {
+        let short = self.short_draft(ranges, &prices, claim)?;
+        closing_prices(
+            self.alloc,
+            self.instance,
+            self.graph,
+            ranges,
+            claim,
+            short.as_ref(),
+            prices,
+            &mut self.scratch,
+        )
+    }
+
     /// Solves a program of this master, as a copy with other bounds, as far as the effort goes.
     pub fn solve(&mut self, relaxation: &mut Relaxation, effort: &Effort) -> Result<Outlook, Memory>
         ensures same { self.new ≡ self.old }
@@ -128,6 +183,17 @@ impl<'a> Master<'a> {
         self.outlook
     }
 
+    /// The least goal for which a need of the box that was priced last may be found: one more than its bound, or than what the
+    /// columns cost where the bound stayed below that by rounding.
+    pub fn least_goal(&self) -> u64 {
+        let bound = self.outlook.bound;
+        let cost = match &self.relaxation {
+            Some(relaxation) => cost_beyond(relaxation, bound),
+            None => 0,
+        };
+        bound.max(cost).saturating_add(1)
+    }
+
     /// The program of the box that was priced last; none where no basis was made.
     pub fn relaxation(&self) -> Option<&Relaxation> {
         self.relaxation.as_ref()
@@ -136,6 +202,23 @@ impl<'a> Master<'a> {
     /// All columns that were ever found.
     pub fn columns(&self) -> &ColumnPool {
         &self.generator.pool
+    }
+
+    /// Prices in small numbers that may close the box for the claim.
+    fn short_draft(
+        &mut self,
+        ranges: &FlowBox,
+        prices: &Prices,
+        claim: &Claim,
+    ) -> Result<Option<Draft>, Memory>
+        ensures same { self.new ≡ self.old }
+    {
+        let rows = rows_of(self.alloc, self.instance, self.graph, ranges)?;
+        let given = Draft::of_prices(self.alloc, self.instance.item_count(), prices)?;
+        let shown = self
+            .generator
+            .shorter(self.instance, self.graph, rows.as_slice(), &given, claim)?;
+        Ok(shown.map(|shown| shown.draft))
     }
 
     /// Solves the program of a box, keeps it, and answers the best prices that came up.
@@ -196,8 +279,10 @@ impl<'a> Master<'a> {
                 self.alloc,
                 self.instance,
                 self.graph,
-                &self.generator.pool,
-                relaxation,
+                Solved {
+                    pool: &self.generator.pool,
+                    relaxation,
+                },
                 &mut self.tally,
             ),
             None => Ok(nothing(self.alloc, self.graph)),

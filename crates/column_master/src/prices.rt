@@ -4,11 +4,11 @@ ghost use Rattle.std.specs.Prelude.{◌≡◌, ◌+◌, ◌<◌, ◌≤◌, IfOk
 ghost use Rattle.packing_laws.specs.Floors.{material_of};
 ghost use Rattle.flow_graph.specs.Arcs.{numbered};
 ghost use Rattle.flow_graph.specs.Faithful.{GraphOf, IsFaithful};
-ghost use Rattle.cert_text.specs.Lines.{ArePrices, IsBetween};
+ghost use Rattle.cert_text.specs.Lines.{ArePrices, IsBetween, IsClaim};
 ghost use Rattle.cert_text.specs.declared.lines.Claim.TheVariants.{Bound};
 ghost use Rattle.cert_laws.specs.Shown.{Closes};
 ghost use Rattle.path_prices.specs.Scratches.{IsScratchOf, NamesAmong};
-ghost use Rattle.column_master.specs.NodePrices.{ArePricesOf};
+ghost use Rattle.column_master.specs.NodePrices.{AreClosing, ArePricesOf};
 ghost use Rattle.column_master.specs.inner.Listings.{AreListed};
 
 use crate::drafts::Draft;
@@ -92,6 +92,35 @@ fn close_for_material(
     }
     let claim = Claim::Bound(material as u64);
     check_leaf(instance, graph, ranges, &claim, prices, scratch).is_none()
+}
+
+/// The prices of a draft where they close the box for the claim, and else the given ones.
+pub(crate) fn closing_prices(
+    alloc: Global,
+    instance: &Instance,
+    graph: &FlowGraph,
+    ranges: &FlowBox,
+    claim: &Claim,
+    draft: Option<&Draft>,
+    given: Prices,
+    scratch: &mut Scratch,
+) -> Result<Prices, Memory>
+    requires graph { GraphOf instance.now graph.now }
+    requires ranges { length ranges.now ≡ length (numbered graph.now) }
+    requires claim { IsClaim claim.now }
+    requires given { AreClosing instance.now graph.now ranges.now claim.now given }
+    requires items { scratch.old.items ≡ length instance.now.items }
+    requires scratch { IsScratchOf graph.now scratch.old }
+    ensures closing { IfOk result (AreClosing instance.now graph.now ranges.now claim.now) }
+    ensures same { scratch.new ≡ scratch.old }
+{
+    if let Some(draft) = draft {
+        let prices = prices_of(alloc, instance, graph, draft)?;
+        if check_leaf(instance, graph, ranges, claim, &prices, scratch).is_none() {
+            return Ok(prices);
+        }
+    }
+    Ok(given)
 }
 
 /// The prices of a draft, those of each arc added up. What no line can tell has no price.

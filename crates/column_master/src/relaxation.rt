@@ -4,12 +4,14 @@ use crate::rows::{MasterRow, RowName, splits_of};
 use arc_num::Memory;
 use column_pool::{Awake, ColumnPool, SplitRow};
 use flow_graph::FlowGraph;
+use gains::best_slack;
 use naming::{column_basic, slack_basic};
 use simplex_basis::{
-    Aim, Basic, Basis, BasisFault, Broken, Coefficient, Columns, Level, Row, Sense, Variable,
+    Aim, Basic, Basis, BasisFault, Broken, Coefficient, Columns, Level, Row, Variable,
 };
 use std::alloc::Global;
 
+mod gains;
 mod naming;
 mod reading;
 mod resting;
@@ -52,6 +54,8 @@ pub struct Relaxation {
     most_cost: u32,
     /// Whether the bounds are those of a dive.
     is_dive: bool,
+    /// Whether what gains little enters too.
+    is_sharp: bool,
 }
 
 /// What one step of the simplex did.
@@ -62,13 +66,6 @@ enum Step {
     Best,
     /// Nothing bounds what gains.
     Stuck,
-}
-
-/// What gains: a variable with its cost, and how much a unit of it costs less than the rows are worth, as a number below 0.
-#[derive(Clone, Copy, Debug, PartialEq, Eq)]
-struct Gaining {
-    row: u32,
-    reduced: i64,
 }
 
 impl Relaxation {
@@ -93,6 +90,7 @@ impl Relaxation {
             mends: 0,
             most_cost,
             is_dive: false,
+            is_sharp: false,
         })
     }
 
@@ -247,17 +245,6 @@ impl Relaxation {
         }
     }
 
-    /// What gains no more than this does not enter.
-    fn tolerance(&self) -> i64 {
-        match self.basis.aim() {
-            Aim::Feasible => simplex_basis::ONE >> 20,
-            Aim::Cheapest => {
-                let most = i64::from(self.most_cost).saturating_mul(self.basis.unit());
-                (most >> 24).max(1)
-            }
-        }
-    }
-
     fn has_negatives(&self) -> bool {
         self.basis.levels().iter().any(|level| level.is_negative())
     }
@@ -265,23 +252,4 @@ impl Relaxation {
     pub(crate) fn compute_prices(&mut self) -> Result<(), Broken> {
         self.basis.compute_prices()
     }
-}
-
-/// The slack that gains most, if one gains more than the limit says.
-fn best_slack(rows: &[MasterRow], basis: &Basis, limit: i64) -> Option<Gaining> {
-    let mut best = None;
-    let mut least = limit;
-    let mut row = 0u32;
-    for (seen, price) in rows.iter().zip(basis.prices().iter()) {
-        let reduced = match seen.seen().sense {
-            Sense::AtLeast => price.value(),
-            Sense::AtMost => price.value().saturating_neg(),
-        };
-        if reduced < least {
-            least = reduced;
-            best = Some(Gaining { row, reduced });
-        }
-        row = row.saturating_add(1);
-    }
-    best
 }

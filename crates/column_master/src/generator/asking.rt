@@ -58,7 +58,8 @@ impl Generator {
         )?;
         let bits = draft.shrink(self.hops);
         lay(self.own.as_mut_slice(), draft.arcs.as_slice());
-        let tolerance = tolerance(draft.scale, self.most_cost, bits);
+        let sharp = relaxation.is_sharp();
+        let tolerance = tolerance(draft.scale, self.most_cost, bits, sharp);
         let most = most_columns(relaxation.rows().len(), graph.type_count());
         let mut excesses = Vec::new(self.alloc);
         let mut woken = 0u32;
@@ -85,16 +86,14 @@ impl Generator {
         asked: Asked<'_>,
         woken: &mut u32,
     ) -> Result<Excess, BasisFault> {
-        let field = field_of(graph, asked.bin_type, self.own.as_slice());
-        let items = asked.draft.items.as_slice();
-        let path = self.passes.go_ahead(field, items, self.rest.as_slice());
-        let own = asked.draft.arc_price(field.first.saturating_sub(1));
-        let excess = Excess::of_type(instance, graph, asked.bin_type, own, path);
+        let excess = self.excess_of(instance, graph, asked.bin_type, asked.draft);
         let above = excess.above(asked.draft.scale);
         if above <= asked.tolerance {
             return Ok(excess);
         }
-        let least = i128::from(path).saturating_sub(above.saturating_sub(asked.tolerance));
+        let least = excess
+            .path
+            .saturating_sub(above.saturating_sub(asked.tolerance));
         let paths = self.paths_above(graph, asked, least)?;
         for numbers in paths {
             if self.add(instance, graph, relaxation, asked.bin_type, numbers)? {
@@ -102,6 +101,21 @@ impl Generator {
             }
         }
         Ok(excess)
+    }
+
+    /// The gain of a type under a draft whose prices of arcs are laid.
+    pub(crate) fn excess_of(
+        &mut self,
+        instance: &Instance,
+        graph: &FlowGraph,
+        bin_type: u32,
+        draft: &Draft,
+    ) -> Excess {
+        let field = field_of(graph, bin_type, self.own.as_slice());
+        let items = draft.items.as_slice();
+        let path = self.passes.go_ahead(field, items, self.rest.as_slice());
+        let own = draft.arc_price(field.first.saturating_sub(1));
+        Excess::of_type(instance, graph, bin_type, own, path)
     }
 
     /// The best path, and the best through each item where that has a price above the least.
@@ -179,12 +193,13 @@ fn add_price(own: &mut [i64], arc: usize, price: i64) {
 }
 
 /// A gain that is above the cost by no more than this wakes no column.
-fn tolerance(scale: i64, most_cost: u32, bits: u32) -> i128 {
+fn tolerance(scale: i64, most_cost: u32, bits: u32, sharp: bool) -> i128 {
     if scale == 0 {
         return i128::from((ONE >> 20) >> bits.min(20));
     }
     let most = i128::from(most_cost) * i128::from(scale);
-    (most >> 22).max(1)
+    let less = if sharp { 30 } else { 22 };
+    (most >> less).max(1)
 }
 
 /// How many columns of a type wake at most in one round, so that there are not more than some times the rows.

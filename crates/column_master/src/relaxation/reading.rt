@@ -111,6 +111,7 @@ impl Relaxation {
             mends: 0,
             most_cost: self.most_cost,
             is_dive: true,
+            is_sharp: false,
         }))
     }
 }
