@@ -1,5 +1,5 @@
 -- The first state of a search.
-use Rattle.std.proofs.Common.{◌≡◌, ℕ, List, [], ◌∷◌, Bool, Option, None, Some, refl, sym, subst, true, length, ◌≤◌}
+use Rattle.std.proofs.Common.{◌≡◌, List, [], ◌∷◌, Bool, Option, None, sym, subst, true, length, ◌≤◌}
 use Rattle.std.proofs.lemmas.List.Elements.{All-cons, All-nil}
 use Rattle.std.specs.Prelude.{All, IfSome}
 use Rattle.packing_laws.specs.Instances.{InstanceValue}
@@ -13,14 +13,14 @@ use Rattle.search_tree.specs.declared.places.Place.{Place}
 use Rattle.search_tree.specs.Trees.{TreeValue, box_of}
 use Rattle.search_states.specs.declared.findings.Finding.{Finding}
 use Rattle.search_states.specs.declared.known.Known.{Known}
-use Rattle.search_states.specs.declared.states.State.{State}
+use Rattle.search_states.specs.declared.notes.Notes.{Notes}
 use Rattle.search_states.specs.States.{IsFinding, IsSettled, IsState, IsValued}
 
-pub first : (I : InstanceValue) (g : List TypeValue) (root : Box) (old : Option Known) (f : Finding) (chords : List Bool) (tree : TreeValue) → root ≡ root_ranges I g → tree ≡ record { root = root; places = record { cuts = []; shown = f.shown; split = None; need = None } ∷ [] } → TellsChords g chords → IsFinding I g root old f → IsState I g (record { tree = tree; best = f.best; chords = chords })
-first I g root old f chords tree is made told found =
+pub first : (I : InstanceValue) (g : List TypeValue) (root : Box) (old : Option Known) (f : Finding) (chords : List Bool) (notes : Notes) (tree : TreeValue) → root ≡ root_ranges I g → tree ≡ record { root = root; places = record { cuts = []; shown = f.shown; split = None; need = None } ∷ [] } → TellsChords g chords → IsFinding I g root old f → IsState I g (record { tree = tree; best = f.best; chords = chords; notes = notes })
+first I g root old f chords notes tree is made told found =
     let p : Place = record { cuts = []; shown = f.shown; split = None; need = None } in
     let T : TreeValue = record { root = root; places = p ∷ [] } in
-    subst (λ (t : TreeValue). IsState I g (record { tree = t; best = f.best; chords = chords })) (sym made)
+    subst (λ (t : TreeValue). IsState I g (record { tree = t; best = f.best; chords = chords; notes = notes })) (sym made)
     (record {
       root = is;
       parts = All-cons (λ (q : Place). IsPartOf root (box_of root q)) p [] whole (All-nil (λ (q : Place). IsPartOf root (box_of root q)));

@@ -5,3 +5,4 @@ pub mod MaterialSizes
 pub mod OpenLeaves
 pub mod FirstStates
 pub mod Splits
+pub mod Kept

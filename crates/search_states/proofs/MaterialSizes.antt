@@ -1,6 +1,6 @@
 -- The material bound of an instance in which each item with a demand fits somewhere is small: without the limits of its types,
 -- which it does not look at, one bin for each unit is a packing.
-use Rattle.std.proofs.Common.{◌≡◌, ℕ, suc, ◌+◌, ◌-◌, ◌*◌, ◌≤◌, ◌<◌, Bool, true, false, ◌&&◌, List, [], ◌∷◌, map, filter, length, Option, None, Some, is_none, refl, sym, ap, subst, ◌∙◌, arith, All, sum_by, get_or, nat_lt, cond, ⊎_elim, ◌≢◌}
+use Rattle.std.proofs.Common.{◌≡◌, ℕ, ◌+◌, ◌-◌, ◌*◌, ◌≤◌, ◌<◌, Bool, true, false, ◌&&◌, List, [], ◌∷◌, map, filter, length, None, is_none, refl, sym, ap, subst, ◌∙◌, arith, All, sum_by, get_or, nat_lt, cond, ⊎_elim, ◌≢◌}
 use Rattle.std.specs.Prelude.{slice_index}
 use Rattle.std.specs.List.{list_any}
 use Rattle.std.proofs.lemmas.Bool.{cases_eq}
@@ -13,8 +13,8 @@ use Rattle.arc_num.specs.declared.TheConstants.{MAX_PRICE, MAX_TYPES}
 use Rattle.packing_laws.specs.declared.instances.BinType.{BinType}
 use Rattle.packing_laws.specs.declared.instances.Item.{Item}
 use Rattle.packing_laws.specs.Instances.{InstanceValue, IsAmong, IsBinType, IsInstance, units_of}
-use Rattle.packing_laws.specs.Packings.{IsPacking, cost_of}
-use Rattle.packing_laws.specs.Floors.{HasPlaces, HasSingle, MaterialIsFloor, SingleIsReached, div_up, floor_in, greatest_of, item_fits, least_of, material_in, material_of, numbers_to, single_costs, single_of}
+use Rattle.packing_laws.specs.Packings.{cost_of}
+use Rattle.packing_laws.specs.Floors.{HasPlaces, HasSingle, MaterialIsFloor, SingleIsReached, div_up, floor_in, greatest_of, item_fits, least_of, material_in, material_of, numbers_to, single_costs}
 use Rattle.packing_laws.proofs.Least.{least_of-passing, some-passing}
 use Rattle.packing_laws.proofs.WrittenUnits.{units-most}
 

@@ -1,5 +1,5 @@
 -- Leaves that are not closed.
-use Rattle.std.proofs.Common.{◌≡◌, ℕ, ◌<◌, ◌≤◌, List, Option, None, Some, is_none, is_some, get_or, length, ◌⊎◌, inl, inr, ⊎_elim, arith, sym, subst, ap, false, true, refl}
+use Rattle.std.proofs.Common.{◌≡◌, ℕ, ◌<◌, Option, None, Some, get_or, length, ◌⊎◌, inl, inr, ⊎_elim, arith, subst, false, true, refl}
 use Rattle.std.specs.Prelude.{IfSome, IsNone, slice_get}
 use Rattle.std.proofs.lemmas.Bool.{cases_lt}
 use Rattle.std.proofs.lemmas.Option.{slice_get-get_or, slice_get_cases}

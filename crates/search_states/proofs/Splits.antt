@@ -1,10 +1,10 @@
 -- An open leaf that is split.
-use Rattle.std.proofs.Common.{◌≡◌, ℕ, ◌+◌, ◌≤◌, ◌<◌, List, ◌∷◌, ◌++◌, Option, None, Some, true, false, is_some, get_or, length, refl, sym, ap, subst, ◌∙◌, inl, inr, ⊎_elim, ◌⊎◌, arith}
+use Rattle.std.proofs.Common.{◌≡◌, ℕ, ◌≤◌, List, Option, None, Some, true, false, is_some, get_or, sym, ap, subst, ◌∙◌, inl, inr, ⊎_elim}
 use Rattle.std.specs.Prelude.{All, slice_get}
 use Rattle.std.specs.Option.{unwrap_or}
 use Rattle.packing_laws.specs.Instances.{InstanceValue}
-use Rattle.flow_graph.specs.Arcs.{TypeValue, numbered}
-use Rattle.flow_graph.specs.Chords.{IsGenuine, high_part, is_chord, low_part}
+use Rattle.flow_graph.specs.Arcs.{TypeValue}
+use Rattle.flow_graph.specs.Chords.{IsGenuine, high_part, low_part}
 use Rattle.flow_model.specs.Boxes.{BoxesSplit, IsPartOf, LiesWithin, high, low, root_ranges}
 use Rattle.flow_model.specs.Flows.{FlowsLieInRoot}
 use Rattle.cert_text.specs.declared.lines.Claim.{Claim}
@@ -19,6 +19,7 @@ use Rattle.search_tree.proofs.Growing as growing
 use Rattle.search_tree.proofs.Needs.{holds_at}
 use Rattle.search_states.specs.declared.findings.Finding.{Finding}
 use Rattle.search_states.specs.declared.known.Known.{Known}
+use Rattle.search_states.specs.declared.notes.Notes.{Notes}
 use Rattle.search_states.specs.declared.states.State.{State}
 use Rattle.search_states.specs.States.{IsBetter, IsFinding, IsOpenLeaf, IsSettled, IsState, IsValued}
 
@@ -95,8 +96,8 @@ module _ (I : InstanceValue) (g : List TypeValue) (s : State) (st : IsState I g 
       better : IsBetter s.best b.best
       better = λ claim reached. second.better claim (first.better claim reached)
 
-      pub grown_state : (SplitsChords g s.tree → SplitsChords g tree) → (KeepsNeeds g s.tree → KeepsNeeds g tree) → IsState I g (record { tree = tree; best = b.best; chords = s.chords })
-      grown_state chords needs = record {
+      pub grown_state : (notes : Notes) → (SplitsChords g s.tree → SplitsChords g tree) → (KeepsNeeds g s.tree → KeepsNeeds g tree) → IsState I g (record { tree = tree; best = b.best; chords = s.chords; notes = notes })
+      grown_state notes chords needs = record {
         root = grown.root ∙ st.root;
         parts = subst (λ (root : Box). All (λ p. IsPartOf root (box_of tree.root p)) tree.places) (sym grown.root) (all_kept (λ x p. IsPartOf s.tree.root x) (λ q own. own) (subst (IsPartOf s.tree.root) (sym lower_is) low_made) (subst (IsPartOf s.tree.root) (sym upper_is) high_made) st.parts);
         valued = all_kept (λ x p. IsValued I g x p.shown) (λ q own. own) first.valued second.valued st.valued;

@@ -1,6 +1,6 @@
 -- What is known of boxes.
-use Rattle.std.proofs.Common.{◌≡◌, ℕ, ◌≤◌, List, arith, ℤ}
-use Rattle.packing_laws.specs.Instances.{InstanceValue, IsInstance}
+use Rattle.std.proofs.Common.{ℕ, ◌≤◌, List, arith}
+use Rattle.packing_laws.specs.Instances.{InstanceValue}
 use Rattle.packing_laws.specs.Floors.{material_of}
 use Rattle.flow_graph.specs.Arcs.{TypeValue, IsFlowGraph}
 use Rattle.flow_graph.specs.Faithful.{IsFaithful}

@@ -1,23 +1,25 @@
 -- How far a search is.
-use Rattle.std.specs.Prelude.{◌≡◌, ◌⊎◌, ℕ, ◌≤◌, List, Bool, Option, None, Some, All, IfSome, slice_get}
+use Rattle.std.specs.Prelude.{◌≡◌, ◌⊎◌, ℕ, ◌≤◌, List, Option, None, Some, All, IfSome, length, slice_get}
 use Rattle.std.specs.Option.{IsSomeAnd}
 use Rattle.arc_num.specs.declared.TheConstants.{MAX_PRICE}
 use Rattle.packing_laws.specs.declared.packings.Bin.{Bin}
 use Rattle.packing_laws.specs.Instances.{InstanceValue}
 use Rattle.packing_laws.specs.Packings.{IsJoined, cost_of}
 use Rattle.packing_laws.specs.Printed.{IsTidy, IsWrittenPacking, bins_of}
-use Rattle.packing_laws.specs.Floors.{HasPlaces, HasSingle, material_of, single_of}
-use Rattle.flow_graph.specs.Arcs.{TypeValue}
+use Rattle.packing_laws.specs.Floors.{HasSingle, material_of, single_of}
+use Rattle.flow_graph.specs.Arcs.{TypeValue, numbered}
 use Rattle.flow_model.specs.Boxes.{IsPartOf, root_ranges}
 use Rattle.cert_text.specs.declared.lines.Claim.{Claim}
 use Rattle.cert_text.specs.declared.lines.Claim.TheVariants.{Bound, Empty}
+use Rattle.cert_text.specs.declared.lines.Need.{Need}
+use Rattle.cert_text.specs.Lines.{IsNeed}
 use Rattle.cert_laws.specs.Rules.{Box}
 use Rattle.column_master.specs.Masters.{MasterValue}
 use Rattle.fixed_leaf.specs.Leaves.{TellsChords}
 use Rattle.search_tree.specs.declared.places.Place.{Place}
 use Rattle.search_tree.specs.declared.places.Shown.{Shown}
 use Rattle.search_tree.specs.Points.{HasOpenChord}
-use Rattle.search_tree.specs.Trees.{IsShown, KeepsNeeds, Reaches, SplitsChords, TreeValue, box_of}
+use Rattle.search_tree.specs.Trees.{IsShown, KeepsNeeds, LeavesReach, Reaches, SplitsChords, box_of, splits_of}
 use Rattle.search_states.specs.declared.known.Known.{Known}
 use Rattle.search_states.specs.declared.findings.Finding.{Finding}
 use Rattle.search_states.specs.declared.states.State.{State}
@@ -56,12 +58,17 @@ IsValued I g box s = IsShown I g box s × Reaches s.claim (Bound (material_of I)
 abbrev pub IsSettled : List TypeValue → Box → Option Known → Claim → Type 0
 IsSettled g box best claim = Reaches claim (goal_of best) ⊎ HasOpenChord g box
 
+-- a flow that a line can tell, of arcs that exist
+abbrev pub IsNeedIn : List TypeValue → Need → Type 0
+IsNeedIn g n = IsNeed n × All (λ x. x.arc ≤ length (numbered g)) n.parts
+
 -- what was found out of a box, where this was the cheapest packing before
 pub record IsFinding (I : InstanceValue) (g : List TypeValue) (box : Box) (old : Option Known) (f : Finding) : Type 0 where
   pub valued : IsValued I g box f.shown
   pub best : IsBest I f.best
   pub better : IsBetter old f.best
   pub settled : IsSettled g box f.best f.shown.claim
+  pub need : IfSome f.need (IsNeedIn g)
 
 -- how far a search is: each place of the tree is known, and each that is not split is closed or could be split on a chord
 pub record IsState (I : InstanceValue) (g : List TypeValue) (s : State) : Type 0 where
@@ -87,3 +94,9 @@ pub record IsOpenLeaf (s : State) (index : ℕ) : Type 0 where
   pub place : Place
   pub read : slice_get s.tree.places index ≡ Some place
   pub is_open : IsOpen place (goal_of s.best)
+
+-- a search whose places show the same by other prices
+pub record IsRepriced (old new : State) : Type 0 where
+  pub best : new.best ≡ old.best
+  pub splits : splits_of new.tree.places ≡ splits_of old.tree.places
+  pub leaves : (claim : Claim) → LeavesReach claim old.tree → LeavesReach claim new.tree

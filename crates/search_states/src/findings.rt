@@ -1,43 +1,50 @@
 //! What is found out of a box.
 
-ghost use Rattle.std.specs.Prelude.{◌≡◌, ◌≤◌, ◌↔◌, IfOk, IsTrue, length};
+ghost use Rattle.std.specs.Prelude.{◌≡◌, ◌≤◌, IfOk, IfSome, length};
 ghost use Rattle.flow_graph.specs.Arcs.{numbered};
-ghost use Rattle.flow_graph.specs.Faithful.{GraphOf, IsFaithful};
+ghost use Rattle.flow_graph.specs.Faithful.{IsFaithful};
 ghost use Rattle.flow_model.specs.Boxes.{LiesWithin, root_ranges};
 ghost use Rattle.fixed_leaf.specs.Leaves.{AreTold, ChordsAreFixed, IsOnlyFlow, Settles, TellsChords};
-ghost use Rattle.cert_text.specs.Lines.{ArePrices, IsClaim};
-ghost use Rattle.cert_text.specs.declared.lines.TreeLine.{TreeLine};
-ghost use Rattle.cert_laws.specs.Rules.{IsStrong};
-ghost use Rattle.path_prices.specs.Scratches.{NamesAmong};
-ghost use Rattle.search_tree.specs.Trees.{Reaches};
-ghost use Rattle.column_master.specs.NodePrices.{ArePricesOf};
-ghost use Rattle.search_states.specs.States.{IsMasterOf, IsBest, IsFinding, IsKnown, IsValued};
-ghost use Rattle.packing_laws.specs.Packings.{cost_of};
-ghost use Rattle.packing_laws.specs.Printed.{bins_of};
-ghost use Rattle.flow_model.specs.Flows.{flow_cost};
+ghost use Rattle.search_tree.specs.Points.{HasOpenChord};
+ghost use Rattle.search_states.specs.States.{IsMasterOf, IsBest, IsFinding, IsKnown, IsNeedIn, IsValued};
 
-use crate::known::{Known, better_of, known_from};
+use crate::choosing::fractional_chord;
+use crate::diving::dive_in;
+use crate::known::{Known, better_of, cost_of, goal_of, known_from};
+use crate::notes::{Note, names_of};
+use crate::pricing::{Priced, price};
 use crate::splitting::open_chord;
-use arc_num::{MAX_PRICE, Memory};
-use cert_text::{Claim, Prices};
-use column_master::{Master, NodePrices};
+use crate::wholes::better_of_flow;
+use arc_num::Memory;
+use cert_text::{Claim, Need};
+use column_master::{BasicName, Master};
 use fixed_leaf::{FixedLeaf, OnlyFlow, fixed_leaf};
 use flow_graph::FlowGraph;
 use flow_model::FlowBox;
 use packing_laws::{Instance, material_is_floor};
-use path_prices::{is_enough, worth};
 use pattern_extract::{ExtractFault, extract};
 use search_tree::{Shown, reaches};
 use std::alloc::Global;
 
-/// So many rounds a box is priced for at most.
-const ROUNDS: u32 = 400;
+/// What is known of a box before it is looked at, and the cheapest packing by then.
+#[derive(Debug, Drop)]
+pub struct Given {
+    pub shown: Shown,
+    pub best: Option<Known>,
+    /// The names of a basis to start from; none for the first basis.
+    pub names: Vec<BasicName>,
+    /// How many boxes were looked at before.
+    pub turn: u32,
+}
 
 /// What is known of a box, and the cheapest packing by then.
 #[derive(Debug, Drop)]
 pub struct Finding {
     pub shown: Shown,
     pub best: Option<Known>,
+    /// A flow that may show that no prices spare a split of the box.
+    pub need: Option<Need>,
+    pub note: Note,
 }
 
 /// Looks at a box of which this is known. A box in which each chord has one value is closed.
@@ -48,106 +55,117 @@ pub fn look_at(
     master: &mut Master,
     chords: &[bool],
     ranges: &FlowBox,
-    known: Finding,
+    given: Given,
 ) -> Result<Finding, Memory>
     requires master { IsMasterOf instance.now graph.now master.old }
     requires faithful { IsFaithful instance.now graph.now }
     requires told { TellsChords graph.now chords.now }
     requires within { LiesWithin ranges.now (root_ranges instance.now graph.now) }
-    requires valued { IsValued instance.now graph.now ranges.now known.shown }
-    requires best { IsBest instance.now known.best }
-    ensures found { IfOk result (IsFinding instance.now graph.now ranges.now known.best) }
+    requires valued { IsValued instance.now graph.now ranges.now given.shown }
+    requires best { IsBest instance.now given.best }
+    ensures found { IfOk result (IsFinding instance.now graph.now ranges.now given.best) }
     ensures master { master.new ≡ master.old }
 {
     let _few = graph.arc_count();
     match open_chord(chords, ranges) {
-        Some(_) => {
-            let Finding { shown, best } = known;
-            let shown = price(instance, graph, master, ranges, shown)?;
-            Ok(Finding { shown, best })
-        }
-        None => close(alloc, instance, graph, ranges, known.best),
+        Some(_) => look_inside(alloc, instance, graph, master, chords, ranges, given),
+        None => close(alloc, instance, graph, ranges, given.best),
     }
 }
 
-// Prices a box, and keeps what shows more of it: its prices, or what was known.
-fn price(
+// Prices a box that can be split, dives for packings, and where it is still open notes how to go on.
+fn look_inside(
+    alloc: Global,
     instance: &Instance,
     graph: &FlowGraph,
     master: &mut Master,
+    chords: &[bool],
     ranges: &FlowBox,
-    known: Shown,
-) -> Result<Shown, Memory>
+    given: Given,
+) -> Result<Finding, Memory>
     requires master { IsMasterOf instance.now graph.now master.old }
-    requires graph { GraphOf instance.now graph.now }
+    requires faithful { IsFaithful instance.now graph.now }
     requires size { length ranges.now ≡ length (numbered graph.now) }
-    requires valued { IsValued instance.now graph.now ranges.now known }
-    ensures valued { IfOk result (IsValued instance.now graph.now ranges.now) }
+    requires chord { HasOpenChord graph.now ranges.now }
+    requires valued { IsValued instance.now graph.now ranges.now given.shown }
+    requires best { IsBest instance.now given.best }
+    ensures found { IfOk result (IsFinding instance.now graph.now ranges.now given.best) }
     ensures master { master.new ≡ master.old }
 {
-    let NodePrices { prices, .. } = master.price_node(ranges, ROUNDS)?;
-    Ok(stronger(instance, graph, ranges, prices, known))
-}
-
-// Prices that close a box for the material bound, where they show no less of it than what is known.
-fn stronger(
-    instance: &Instance,
-    graph: &FlowGraph,
-    ranges: &FlowBox,
-    prices: Prices,
-    known: Shown,
-) -> Shown
-    requires graph { GraphOf instance.now graph.now }
-    requires size { length ranges.now ≡ length (numbered graph.now) }
-    requires priced { ArePricesOf instance.now graph.now ranges.now prices }
-    requires valued { IsValued instance.now graph.now ranges.now known }
-    ensures { IsValued instance.now graph.now ranges.now result }
-{
-    let claim = greatest_claim(prices.scale, worth(instance, ranges, &prices));
-    if is_better(instance, ranges, &prices, &claim, &known.claim) {
-        Shown { prices, claim }
-    } else {
-        known
+    let Given {
+        shown,
+        best,
+        names,
+        turn,
+    } = given;
+    let cut = cost_of(&best);
+    let Priced { shown, flow } = price(
+        instance,
+        graph,
+        master,
+        ranges,
+        shown,
+        names.as_slice(),
+        cut,
+    )?;
+    let split = fractional_chord(graph, chords, ranges, &flow);
+    let whole = better_of_flow(alloc, instance, graph, best, &flow, split)?;
+    let best = dive_in(alloc, instance, master, whole, &shown.claim, turn)?;
+    if reaches(&shown.claim, &goal_of(&best)) {
+        return Ok(Finding {
+            shown,
+            best,
+            need: None,
+            note: Note::nothing(alloc),
+        });
     }
+    let need = need_of(master, ranges, &best)?;
+    let note = Note {
+        names: names_of(alloc, master)?,
+        split,
+    };
+    Ok(Finding {
+        shown,
+        best,
+        need,
+        note,
+    })
 }
 
-// Whether prices are enough for a claim, and that is no less than another.
-fn is_better(
-    instance: &Instance,
+// A flow that shows that no prices close the box that was priced last: for one more than the master shows of it, or else for what
+// the cheapest packing costs.
+fn need_of(
+    master: &mut Master,
     ranges: &FlowBox,
-    prices: &Prices,
-    claim: &Claim,
-    other: &Claim,
-) -> bool
-    requires prices { ArePrices prices.now }
-    requires names { NamesAmong (length instance.now.items) (length ranges.now) prices.now }
-    requires claim { IsClaim claim.now }
-    ensures { IsTrue result → IsStrong instance.now ranges.now claim.now (TreeLine.Leaf prices.now) × Reaches claim.now other.now }
+    best: &Option<Known>,
+) -> Result<Option<Need>, Memory>
+    requires { length ranges.now ≡ length (numbered master.old.graph) }
+    ensures need { IfOk result (λ n. IfSome n (IsNeedIn master.old.graph)) }
+    ensures master { master.new ≡ master.old }
 {
-    is_strong(instance, ranges, prices, claim) && reaches(claim, other)
-}
-
-// Whether prices are worth enough in a box for a claim.
-fn is_strong(instance: &Instance, ranges: &FlowBox, prices: &Prices, claim: &Claim) -> bool
-    requires prices { ArePrices prices.now }
-    requires names { NamesAmong (length instance.now.items) (length ranges.now) prices.now }
-    requires claim { IsClaim claim.now }
-    ensures { IsTrue result ↔ IsStrong instance.now ranges.now claim.now (TreeLine.Leaf prices.now) }
-{
-    let worth = worth(instance, ranges, prices);
-    is_enough(claim, prices.scale, worth)
-}
-
-// The greatest claim that prices of this worth may be enough for.
-fn greatest_claim(scale: u64, worth: i128) -> Claim
-    ensures { IsClaim result }
-{
-    if scale == 0 {
-        return Claim::Empty;
+    let least = master.least_goal();
+    let found = need_for(master, ranges, Some(least))?;
+    if found.is_some() {
+        return Ok(found);
     }
-    let whole = u128::try_from(worth).unwrap_or(0);
-    let bound = whole.div_ceil(u128::from(scale));
-    Claim::Bound(bound.min(u128::from(MAX_PRICE)) as u64)
+    let goal = match best {
+        Some(known) => Some(known.cost),
+        None => None,
+    };
+    need_for(master, ranges, goal)
+}
+
+// A flow that shows that no prices close the box that was priced last for a goal.
+fn need_for(
+    master: &mut Master,
+    ranges: &FlowBox,
+    goal: Option<u64>,
+) -> Result<Option<Need>, Memory>
+    requires { length ranges.now ≡ length (numbered master.old.graph) }
+    ensures need { IfOk result (λ n. IfSome n (IsNeedIn master.old.graph)) }
+    ensures master { master.new ≡ master.old }
+{
+    master.need(ranges, goal)
 }
 
 // Closes a box in which each chord has one value: no flow lies in it, or one that gives a packing.
@@ -189,7 +207,12 @@ fn closed(
         None => {
             let claim = Claim::Empty;
             let shown = Shown { prices, claim };
-            Ok(Finding { shown, best })
+            Ok(Finding {
+                shown,
+                best,
+                need: None,
+                note: Note::nothing(alloc),
+            })
         }
         Some(only) => {
             material_is_floor();
@@ -197,7 +220,12 @@ fn closed(
             let claim = Claim::Bound(known.cost);
             let shown = Shown { prices, claim };
             let best = better_of(best, known);
-            Ok(Finding { shown, best })
+            Ok(Finding {
+                shown,
+                best,
+                need: None,
+                note: Note::nothing(alloc),
+            })
         }
     }
 }

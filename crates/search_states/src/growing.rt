@@ -1,15 +1,20 @@
 //! How a search goes on.
 
-ghost use Rattle.std.specs.Prelude.{◌≡◌, ◌+◌, ◌<◌, ◌≤◌, true, List, IfOk, length};
+ghost use Rattle.std.specs.Prelude.{◌≡◌, ◌+◌, ◌<◌, ◌≤◌, true, List, IfOk, Some, length, slice_get};
 ghost use Rattle.flow_graph.specs.Arcs.{TypeValue, numbered};
 ghost use Rattle.flow_graph.specs.Faithful.{IsFaithful};
 ghost use Rattle.flow_graph.specs.Chords.{IsGenuine, high_part, is_chord, low_part};
 ghost use Rattle.fixed_leaf.specs.Leaves.{TellsChords};
+ghost use Rattle.search_tree.specs.declared.places.Place.{Place};
 ghost use Rattle.search_tree.specs.Points.{HasOpenChord};
 ghost use Rattle.search_tree.specs.Trees.{splits_of};
 ghost use Rattle.search_states.specs.States.{IsMasterOf, IsOpenLeaf, IsState};
 
-use crate::findings::{Finding, look_at};
+use crate::choosing::genuine_split;
+use crate::findings::{Given, look_at};
+use crate::keeping::keep_need;
+use crate::known::Known;
+use crate::notes::Notes;
 use crate::splitting::open_chord;
 use crate::states::State;
 use arc_num::{Listed, MAX_NUMBERED, Memory};
@@ -18,7 +23,7 @@ use column_master::Master;
 use flow_graph::FlowGraph;
 use flow_model::{FlowBox, boxes_split, flows_lie_in_root};
 use packing_laws::Instance;
-use search_tree::{Shown, SplitAt, parts_are_shown};
+use search_tree::{Shown, SplitAt, Tree, parts_are_shown};
 use std::alloc::Global;
 
 /// Splits an open leaf on a chord, and looks at both parts.
@@ -47,15 +52,13 @@ pub fn split_leaf(
         mut tree,
         best,
         chords,
+        mut notes,
     } = state;
     let ranges = tree.box_at(index)?;
     ranges.known();
-    let split = chord_in(chords.as_slice(), &ranges);
-    let known = Finding {
-        shown: shown_again(&tree.places()[index].shown)?,
-        best,
-    };
+    let split = chord_in(chords.as_slice(), &ranges, notes.split_at(index));
     let part = low_box(&ranges, split)?;
+    let given = given_at(alloc, &tree, &mut notes, index, best)?;
     let low = look_at(
         alloc,
         instance,
@@ -63,13 +66,10 @@ pub fn split_leaf(
         master,
         chords.as_slice(),
         &part,
-        known,
+        given,
     )?;
-    let known = Finding {
-        shown: shown_again(&tree.places()[index].shown)?,
-        best: low.best,
-    };
     let part = high_box(&ranges, split)?;
+    let given = given_at(alloc, &tree, &mut notes, index, low.best)?;
     let high = look_at(
         alloc,
         instance,
@@ -77,23 +77,53 @@ pub fn split_leaf(
         master,
         chords.as_slice(),
         &part,
-        known,
+        given,
     )?;
     tree.split(alloc, index, split, low.shown, high.shown)?;
-    Ok(State {
+    notes.split(alloc, index, low.note, high.note)?;
+    let grown = State {
         tree,
         best: high.best,
         chords,
+        notes,
+    };
+    let grown = keep_need(grown, index.saturating_add(1), low.need);
+    Ok(keep_need(grown, index.saturating_add(2), high.need))
+}
+
+// What is known of a part of the box of a place before it is looked at.
+fn given_at(
+    alloc: Global,
+    tree: &Tree,
+    notes: &mut Notes,
+    index: usize,
+    best: Option<Known>,
+) -> Result<Given, Memory>
+    requires inside { index < length tree.now.places }
+    ensures shown { (p : Place) → slice_get tree.now.places index ≡ Some p → IfOk result (λ d. d.shown ≡ p.shown) }
+    ensures best { IfOk result (λ d. d.best ≡ best) }
+{
+    let turn = notes.next_turn();
+    Ok(Given {
+        shown: shown_again(&tree.places()[index].shown)?,
+        best,
+        names: notes.names_at(alloc, index)?,
+        turn,
     })
 }
 
-// The chord of a box on which it is split.
-fn chord_in(chords: &[bool], ranges: &FlowBox) -> SplitAt
+// The split of a box on a chord: the one that is noted, if it is one of this box.
+fn chord_in(chords: &[bool], ranges: &FlowBox, noted: Option<SplitAt>) -> SplitAt
     requires few { length chords.now ≤ MAX_NUMBERED }
     requires some { (g : List TypeValue) × TellsChords g chords.now × HasOpenChord g ranges.now × (length ranges.now ≡ length (numbered g)) }
     ensures chord { (g : List TypeValue) → TellsChords g chords.now → is_chord g result.arc ≡ true }
     ensures genuine { IsGenuine ranges.now result.arc result.k }
 {
+    if let Some(split) = noted
+        && let Some(split) = genuine_split(chords, ranges, split)
+    {
+        return split;
+    }
     match open_chord(chords, ranges) {
         Some(split) => split,
         None => unreachable!(),
@@ -124,8 +154,8 @@ fn high_box(ranges: &FlowBox, split: SplitAt) -> Result<FlowBox, Memory>
     Ok(part)
 }
 
-// What is known, once more.
-fn shown_again(shown: &Shown) -> Result<Shown, Memory>
+/// What is known, once more.
+pub(crate) fn shown_again(shown: &Shown) -> Result<Shown, Memory>
     ensures { IfOk result (λ s. s ≡ shown.now) }
 {
     let prices = &shown.prices;

@@ -4,9 +4,10 @@ ghost use Rattle.std.specs.Prelude.{◌≡◌, ◌≤◌, IfOk, Some};
 ghost use Rattle.packing_laws.specs.Instances.{InstanceValue};
 ghost use Rattle.packing_laws.specs.Packings.{cost_of};
 ghost use Rattle.packing_laws.specs.Printed.{IsTidy, IsWrittenPacking, bins_of};
-ghost use Rattle.search_states.specs.States.{IsBest, IsBetter, IsKnown};
+ghost use Rattle.search_states.specs.States.{IsBest, IsBetter, IsKnown, goal_of};
 
 use arc_num::{MAX_PRICE, Memory};
+use cert_text::Claim;
 use first_fit::first_fit;
 use packing_laws::{Instance, Packing, cost, join_bins, packings_fit, tidy};
 use std::alloc::Global;
@@ -63,5 +64,23 @@ pub fn better_of(best: Option<Known>, other: Known) -> Option<Known>
     match best {
         Some(known) if known.cost <= other.cost => Some(known),
         _ => Some(other),
+    }
+}
+
+/// What closes a box.
+pub(crate) fn goal_of(best: &Option<Known>) -> Claim
+    ensures { result ≡ goal_of best.now }
+{
+    match best {
+        Some(known) => Claim::Bound(known.cost),
+        None => Claim::Empty,
+    }
+}
+
+/// What the cheapest packing costs, or more than any does.
+pub(crate) fn cost_of(best: &Option<Known>) -> u64 {
+    match best {
+        Some(known) => known.cost,
+        None => u64::MAX,
     }
 }

@@ -7,8 +7,10 @@ ghost use Rattle.search_tree.specs.Trees.{LeavesReach, splits_of};
 ghost use Rattle.search_states.specs.States.{IsMasterOf, IsOpen, IsOpenLeaf, IsState, IsValued, goal_of};
 ghost use Rattle.flow_model.specs.Boxes.{root_ranges};
 
-use crate::findings::{Finding, look_at};
-use crate::known::{Known, first_known};
+use crate::findings::{Given, look_at};
+use crate::keeping::keep_need;
+use crate::known::{Known, first_known, goal_of};
+use crate::notes::Notes;
 use arc_num::{Listed, MAX_PRICE, Memory};
 use bound_certificates::{material_prices, material_prices_close};
 use cert_text::Claim;
@@ -20,12 +22,13 @@ use packing_laws::{Instance, material_bound, material_is_floor, single_is_reache
 use search_tree::{Place, Shown, Tree, reaches};
 use std::alloc::Global;
 
-/// The tree of a search, the cheapest packing by now, and for each arc whether it is a chord.
+/// The tree of a search with a note beside each place, the cheapest packing by now, and for each arc whether it is a chord.
 #[derive(Debug, Drop)]
 pub struct State {
     pub tree: Tree,
     pub best: Option<Known>,
     pub chords: Listed<bool>,
+    pub notes: Notes,
 }
 
 /// The first state: one place, and the first packing.
@@ -45,9 +48,11 @@ pub fn first_state(
     let chords = chords_of(alloc, instance, graph)?;
     let root = root_box(alloc, instance, graph)?;
     flows_lie_in_root();
-    let known = Finding {
+    let given = Given {
         shown: material_shown(alloc, instance, graph)?,
         best: first_known(alloc, instance)?,
+        names: Vec::new(alloc),
+        turn: 0,
     };
     let found = look_at(
         alloc,
@@ -56,14 +61,17 @@ pub fn first_state(
         master,
         chords.as_slice(),
         &root,
-        known,
+        given,
     )?;
     let tree = Tree::new(alloc, root, found.shown)?;
-    Ok(State {
+    let notes = Notes::new(alloc, found.note)?;
+    let state = State {
         tree,
         best: found.best,
         chords,
-    })
+        notes,
+    };
+    Ok(keep_need(state, 0, found.need))
 }
 
 // What material prices show of the root box.
@@ -92,7 +100,8 @@ fn small_material(instance: &Instance) -> u64
     material_bound(instance) as u64
 }
 
-/// The leaf of least bound that is not closed yet, by its index. None where each leaf is closed.
+/// The leaf of least bound that is not closed yet, by its index; the newest where several show the same. None where each leaf is
+/// closed.
 pub fn open_leaf(state: &State) -> Option<usize>
     ensures some { IfSome result (IsOpenLeaf state.now) }
     ensures inside { IfSome result (λ i. i < length state.now.tree.places) }
@@ -103,20 +112,10 @@ pub fn open_leaf(state: &State) -> Option<usize>
     let mut open: Option<usize> = None;
     for index in 0..places.len() {
         if is_open(&places[index], &goal) {
-            open = Some(lower_of(places, open, index));
+            open = Some(next_of(places, &state.notes, open, index));
         }
     }
     open
-}
-
-// What closes a box.
-fn goal_of(best: &Option<Known>) -> Claim
-    ensures { result ≡ goal_of best.now }
-{
-    match best {
-        Some(known) => Claim::Bound(known.cost),
-        None => Claim::Empty,
-    }
 }
 
 // Whether a place is not split and not closed.
@@ -126,14 +125,20 @@ fn is_open(place: &Place, goal: &Claim) -> bool
     place.split.is_none() && !reaches(&place.shown.claim, goal)
 }
 
-// Of an index, if there is one, and a later one that of the place of which less is shown; the first where both show the same.
-fn lower_of(places: &[Place], first: Option<usize>, later: usize) -> usize
+// Of an index, if there is one, and a later one that of the place which is split first: less is shown of it, or it is the newer one.
+fn next_of(places: &[Place], notes: &Notes, first: Option<usize>, later: usize) -> usize
     requires first { IfSome first (λ i. i < length places.now) }
     requires later { later < length places.now }
     ensures { (Some result ≡ first) ⊎ (result ≡ later) }
 {
-    match first {
-        Some(index) if reaches(&places[later].shown.claim, &places[index].shown.claim) => index,
-        _ => later,
+    let Some(index) = first else {
+        return later;
+    };
+    let is_no_less = reaches(&places[later].shown.claim, &places[index].shown.claim);
+    let is_no_more = reaches(&places[index].shown.claim, &places[later].shown.claim);
+    if is_no_less && !(is_no_more && notes.is_newer(later, index)) {
+        index
+    } else {
+        later
     }
 }

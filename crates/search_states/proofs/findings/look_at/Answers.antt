@@ -1,4 +1,4 @@
-use Rattle.std.proofs.Common.{◌≡◌, ◌≤◌, length, arith}
+use Rattle.std.proofs.Common.{arith}
 use Rattle.search_states.proofs.findings.look_at.Goals as goal
 
 pub open_chord-requires-clause-few : goal.open_chord-requires-clause-few

@@ -1,4 +1,4 @@
-use Rattle.std.proofs.Common.{◌≡◌, List, true, false, Some, subst, ◌∙◌}
+use Rattle.std.proofs.Common.{◌≡◌, true, false, Some, subst, ◌∙◌}
 use Rattle.flow_model.proofs.BrokenRows.{answered}
 use Rattle.pattern_extract.specs.declared.extracts.ExtractFault.{ExtractFault}
 use Rattle.pattern_extract.specs.Extracts.{IsReason}

@@ -1,4 +1,4 @@
-use Rattle.std.proofs.Common.{◌≡◌, ◌≤◌, ◌^◌, ◌<◌, arith, rules}
+use Rattle.std.proofs.Common.{arith}
 use Rattle.search_states.proofs.KnownCosts.{cost_small}
 use Rattle.search_states.proofs.known.small_cost.Goals as goal
 

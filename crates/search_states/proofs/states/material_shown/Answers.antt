@@ -1,4 +1,4 @@
-use Rattle.std.proofs.Common.{◌≡◌, ◌≤◌, arith, sym, subst}
+use Rattle.std.proofs.Common.{arith}
 use Rattle.flow_model.specs.Boxes.{root_ranges}
 use Rattle.search_states.proofs.Valued.{valued_material}
 use Rattle.search_states.proofs.states.material_shown.Goals as goal

@@ -1,4 +1,4 @@
-use Rattle.std.proofs.Common.{◌≡◌, ℕ, ◌<◌, ◌≤◌, List, Option, Some, length, subst, sym, arith, ap}
+use Rattle.std.proofs.Common.{◌≡◌, ◌<◌, List, Some, length, subst, sym, arith, ap}
 use Rattle.std.specs.Prelude.{slice_get}
 use Rattle.cert_text.specs.declared.lines.Claim.{Claim}
 use Rattle.search_tree.specs.declared.places.Place.{Place}

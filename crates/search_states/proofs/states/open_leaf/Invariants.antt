@@ -1,5 +1,5 @@
-use Rattle.std.proofs.Common.{◌≡◌, ℕ, ◌<◌, ◌≤◌, IfSome, IsNone, length, take, get_or}
-use Rattle.std.specs.Prelude.{All, slice_get, Some}
+use Rattle.std.proofs.Common.{◌≡◌, ℕ, ◌<◌, IfSome, IsNone, length}
+use Rattle.std.specs.Prelude.{slice_get, Some}
 use Rattle.search_tree.specs.declared.places.Place.{Place}
 use Rattle.search_states.specs.States.{IsOpen}
 use Rattle.search_states.proofs.states.open_leaf.Given as goal

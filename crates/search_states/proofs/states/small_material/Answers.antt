@@ -1,4 +1,4 @@
-use Rattle.std.proofs.Common.{◌≡◌, ◌≤◌, ◌<◌, ◌^◌, arith}
+use Rattle.std.proofs.Common.{arith}
 use Rattle.search_states.proofs.MaterialSizes.{small_material}
 use Rattle.search_states.proofs.states.small_material.Goals as goal
 

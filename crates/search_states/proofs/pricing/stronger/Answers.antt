@@ -1,6 +1,5 @@
-use Rattle.std.proofs.Common.{◌≡◌, rules}
 use Rattle.search_states.proofs.Valued.{valued_by}
-use Rattle.search_states.proofs.findings.stronger.Goals as goal
+use Rattle.search_states.proofs.pricing.stronger.Goals as goal
 
 pub returns-then-is_better : goal.returns-then-is_better
 returns-then-is_better c =
