@@ -1,5 +1,5 @@
 -- An item that fits nowhere: no path carries it, and a price of it alone shows that the root box is empty.
-use Rattle.std.proofs.Common.{◌≡◌, ℕ, suc, ◌+◌, ◌-◌, ◌*◌, ◌≤◌, ◌<◌, Bool, true, false, cond, ◌==◌, List, [], ◌∷◌, Option, None, Some, length, get_or, ap, sym, subst, ◌∙◌, ⊎_elim, arith, refl, All, ℤ, pos, ◌≤ℤ◌, ◌<ℤ◌}
+use Rattle.std.proofs.Common.{◌≡◌, ℕ, suc, ◌-◌, ◌*◌, ◌≤◌, ◌<◌, true, false, ◌==◌, List, [], ◌∷◌, Option, None, Some, length, get_or, ap, sym, subst, ◌∙◌, ⊎_elim, arith, refl, All, pos}
 use Rattle.std.specs.Prelude.{slice_index}
 use Rattle.std.specs.List.{list_any}
 use Rattle.std.proofs.Math.Nat.{mul-le-mul_right}
@@ -8,7 +8,7 @@ use Rattle.std.proofs.lemmas.Int.{ints}
 use Rattle.std.proofs.lemmas.List.{get_or-map}
 use Rattle.std.proofs.lemmas.List.Folds.{list_any_at}
 use Rattle.std.proofs.lemmas.List.Elements.{All-cons, All-head, All-nil, All-tail}
-use Rattle.std.proofs.lemmas.List.Sums.{get_or-le-sum_by, sum_by-cons}
+use Rattle.std.proofs.lemmas.List.Sums.{get_or-le-sum_by}
 use Rattle.packing_laws.specs.declared.instances.BinType.{BinType}
 use Rattle.packing_laws.specs.declared.instances.Item.{Item}
 use Rattle.packing_laws.specs.declared.packings.Count.{Count}
@@ -17,7 +17,7 @@ use Rattle.packing_laws.specs.Packings.{Content, Fits, cost_at, weight_in}
 use Rattle.packing_laws.specs.Floors.{IsFirstHomeless, item_fits, vector_fits}
 use Rattle.packing_laws.proofs.PackedItems.{vector_fits-from}
 use Rattle.flow_graph.specs.declared.parts.ArcKind.{ArcKind}
-use Rattle.flow_graph.specs.declared.parts.ArcKind.TheVariants.{Bin, Loss, Piece}
+use Rattle.flow_graph.specs.declared.parts.ArcKind.TheVariants.{Loss, Piece}
 use Rattle.flow_graph.specs.declared.parts.TypeArc.{TypeArc}
 use Rattle.flow_graph.specs.Arcs.{TypeValue, arc_at, first_arc, kind_of, numbered}
 use Rattle.flow_graph.specs.Faithful.{AreNumbersOf, IsFaithful, content_of, unit_of}

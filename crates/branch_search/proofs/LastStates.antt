@@ -1,17 +1,16 @@
 -- The answer of a search at its end.
-use Rattle.std.proofs.Common.{◌≡◌, ℕ, ◌+◌, ◌≤◌, ◌<◌, min, List, [], ◌∷◌, ◌++◌, Option, None, Some, take, get_or, length, refl, sym, ap, subst, ◌∙◌, arith, All, ⊎_elim, is_some}
+use Rattle.std.proofs.Common.{◌≡◌, ℕ, ◌+◌, ◌≤◌, ◌<◌, min, List, [], ◌∷◌, ◌++◌, Option, None, Some, take, get_or, length, sym, ap, subst, ◌∙◌, arith, All, ⊎_elim, is_some}
 use Rattle.std.specs.Prelude.{IfSome, IsNone}
 use Rattle.std.specs.Option.{IsSomeAnd, option_map}
 use Rattle.std.proofs.lemmas.Bool.{cases_lt}
 use Rattle.std.proofs.lemmas.List.{get_or_append_left, length-append, take_more}
 use Rattle.std.proofs.lemmas.List.Elements.{All-head, All-more, All-tail}
 use Rattle.arc_num.specs.declared.TheConstants.{MAX_PRICE}
-use Rattle.packing_laws.specs.declared.packings.Bin.{Bin}
 use Rattle.packing_laws.specs.Instances.{InstanceValue}
 use Rattle.packing_laws.specs.Packings.{cost_of}
 use Rattle.packing_laws.specs.Printed.{bins_of}
-use Rattle.packing_laws.specs.Floors.{HasPlaces, HasSingle, material_of, single_of}
-use Rattle.flow_graph.specs.Arcs.{TypeValue, numbered}
+use Rattle.packing_laws.specs.Floors.{material_of, single_of}
+use Rattle.flow_graph.specs.Arcs.{TypeValue}
 use Rattle.flow_graph.specs.Chords.{points_of}
 use Rattle.flow_model.specs.Boxes.{root_ranges}
 use Rattle.flow_model.specs.Flows.{FlowsLieInRoot}
@@ -26,7 +25,7 @@ use Rattle.search_tree.specs.Trees.{IsTree, LeavesReach, Reaches, splits_of}
 use Rattle.search_tree.proofs.Needs.{holds_at}
 use Rattle.search_states.specs.declared.known.Known.{Known}
 use Rattle.search_states.specs.declared.states.State.{State}
-use Rattle.search_states.specs.States.{IsBest, IsKnown, IsOpenLeaf, IsPrinted, IsState, IsValued, goal_of}
+use Rattle.search_states.specs.States.{IsKnown, IsOpenLeaf, IsPrinted, IsState, goal_of}
 use Rattle.search_states.proofs.Splits.{leaf_chord, leaf_valued}
 use Rattle.branch_search.specs.inner.Bounds.{IsBoundOf, IsLeastBound, bound_in, leaf_bound}
 

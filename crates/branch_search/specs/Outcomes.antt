@@ -13,19 +13,23 @@ use Rattle.cert_text.specs.declared.lines.Certificate.{Certificate}
 use Rattle.cert_text.specs.declared.lines.Claim.{Claim}
 use Rattle.cert_text.specs.declared.lines.Claim.TheVariants as claim
 use Rattle.cert_text.specs.Lines.{lines_of}
+use Rattle.cert_text.specs.Spelling.{certificate_text_of}
 use Rattle.cert_laws.specs.Shown.{IsCertified}
+use Rattle.cert_stream.specs.declared.verdict.Verdict.TheVariants.{Shown}
+use Rattle.cert_stream.specs.Verdicts.{IsVerdict}
 use Rattle.search_tree.specs.Trees.{splits_in}
 use Rattle.search_states.specs.States.{IsPrinted}
 use Rattle.branch_search.specs.declared.outcomes.Outcome.{Outcome}
 use Rattle.branch_search.specs.declared.outcomes.Outcome.TheVariants.{Optimal, Infeasible, Bracket}
 
--- a certificate of version 2 that is accepted with a claim, for a goal and with no more than so many splits
+-- a certificate of version 2 that is accepted with a claim, for a goal and with no more than so many splits; its text shows the claim
 pub record IsCertificateOf (I : InstanceValue) (g : List TypeValue) (most : ℕ) (claim : Claim) (goal : Option ℕ) (c : Certificate) : Type 0 where
   pub version : c.version ≡ 2
   pub claim_told : c.claim ≡ claim
   pub goal_told : c.goal ≡ goal
   pub certified : IsCertified I g (lines_of c) claim
   pub splits : splits_in c.lines ≤ most
+  pub verdict : IsVerdict I g (certificate_text_of c) (Shown claim)
 
 -- a bracket: all splits that were granted are made, and they are too few to single out the points of the root box; the bound is no
 -- less than the material bound, a packing costs more than it, and where the single cost exists there is one that costs at most that

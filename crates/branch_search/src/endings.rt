@@ -9,14 +9,15 @@ ghost use Rattle.search_states.specs.States.{IsOpenLeaf, IsState, goal_of};
 ghost use Rattle.branch_search.specs.Outcomes.{IsOutcome};
 ghost use Rattle.branch_search.specs.inner.Bounds.{IsBoundOf, IsLeastBound};
 
+use crate::certificates::certificate_of;
 use crate::outcomes::Outcome;
-use arc_num::{MAX_PRICE, Memory};
+use arc_num::{MAX_PRICE, MAX_SPLITS, Memory};
 use cert_text::Claim;
 use flow_graph::FlowGraph;
 use flow_model::flows_lie_in_root;
 use packing_laws::{Instance, Packing};
 use search_states::{Known, State};
-use search_tree::{Place, Target, open_trees_have_points, tree_certificate};
+use search_tree::{Place, Target, open_trees_have_points};
 use std::alloc::Global;
 
 /// The answer where each leaf is closed: the cheapest packing is optimal, or there is none.
@@ -31,6 +32,7 @@ pub(crate) fn closed_outcome(
     requires state { IsState instance.now graph.now state }
     requires closed { LeavesReach (goal_of state.best) state.tree }
     requires splits { splits_of state.tree.places ≤ budget }
+    requires budget { budget ≤ MAX_SPLITS }
     ensures { IfOk result (IsOutcome instance.now graph.now budget) }
 {
     let State { tree, best, .. } = state;
@@ -41,7 +43,7 @@ pub(crate) fn closed_outcome(
                 goal: None,
                 is_pruned: true,
             };
-            let certificate = tree_certificate(alloc, instance, graph, &tree, target)?;
+            let certificate = certificate_of(alloc, instance, graph, &tree, target, budget)?;
             Ok(Outcome::Infeasible { certificate })
         }
         Some(known) => {
@@ -50,7 +52,7 @@ pub(crate) fn closed_outcome(
                 goal: Some(known.cost),
                 is_pruned: true,
             };
-            let certificate = tree_certificate(alloc, instance, graph, &tree, target)?;
+            let certificate = certificate_of(alloc, instance, graph, &tree, target, budget)?;
             Ok(Outcome::Optimal {
                 packing: known.packing,
                 certificate,
@@ -73,6 +75,7 @@ pub(crate) fn open_outcome(
     requires state { IsState instance.now graph.now state }
     requires leaf { IsOpenLeaf state index }
     requires splits { splits_of state.tree.places ≡ budget }
+    requires budget { budget ≤ MAX_SPLITS }
     ensures { IfOk result (IsOutcome instance.now graph.now budget) }
 {
     graph.known();
@@ -86,7 +89,7 @@ pub(crate) fn open_outcome(
         goal: Some(lower + 1),
         is_pruned: false,
     };
-    let certificate = tree_certificate(alloc, instance, graph, &tree, target)?;
+    let certificate = certificate_of(alloc, instance, graph, &tree, target, budget)?;
     Ok(Outcome::Bracket {
         lower,
         packing: packing_of(best),

@@ -6,13 +6,14 @@ ghost use Rattle.cert_text.specs.Lines.{ArePrices};
 ghost use Rattle.flow_graph.specs.Faithful.{IsFaithful};
 ghost use Rattle.branch_search.specs.Outcomes.{IsOutcome};
 
+use crate::certificates::certificate_of;
 use crate::outcomes::Outcome;
-use arc_num::{Listed, Memory};
+use arc_num::{Listed, MAX_SPLITS, Memory};
 use cert_text::{Claim, ItemPrice, Prices};
 use flow_graph::FlowGraph;
 use flow_model::root_box;
 use packing_laws::Instance;
-use search_tree::{Shown, Target, Tree, tree_certificate};
+use search_tree::{Shown, Target, Tree};
 use std::alloc::Global;
 
 /// The answer where an item with a demand fits nowhere: no path carries it, so that a price of it alone shows that the root box
@@ -26,6 +27,7 @@ pub(crate) fn homeless_outcome(
 ) -> Result<Outcome, Memory>
     requires faithful { IsFaithful instance.now graph.now }
     requires homeless { IsFirstHomeless instance.now item }
+    requires budget { budget ≤ MAX_SPLITS }
     ensures { IfOk result (IsOutcome instance.now graph.now budget) }
 {
     instance.known();
@@ -41,7 +43,7 @@ pub(crate) fn homeless_outcome(
         goal: None,
         is_pruned: true,
     };
-    let certificate = tree_certificate(alloc, instance, graph, &tree, target)?;
+    let certificate = certificate_of(alloc, instance, graph, &tree, target, budget)?;
     Ok(Outcome::Infeasible { certificate })
 }
 

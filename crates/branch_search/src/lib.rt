@@ -2,6 +2,7 @@
 //! packing so far.
 #![tactic(auto)]
 
+mod certificates;
 mod endings;
 mod homeless;
 mod outcomes;
@@ -9,6 +10,3 @@ mod searching;
 
 pub use outcomes::Outcome;
 pub use searching::search;
-
-#[cfg(test)]
-mod tests;

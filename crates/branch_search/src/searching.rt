@@ -14,10 +14,11 @@ use arc_num::{MAX_SPLITS, Memory};
 use column_master::Master;
 use flow_graph::FlowGraph;
 use packing_laws::{Instance, homeless_item};
-use search_states::{State, first_state, open_leaf, split_leaf};
+use search_states::{State, first_state, open_leaf, shortened, split_leaf};
 use std::alloc::Global;
 
 /// Searches for a cheapest packing with so many splits at most: it splits the leaf of least bound each time, until each is closed.
+/// The prices of the leaves become short at the end.
 pub fn search(
     alloc: Global,
     instance: &Instance,
@@ -43,11 +44,13 @@ fn search_placed(
 ) -> Result<Outcome, Memory>
     requires faithful { IsFaithful instance.now graph.now }
     requires places { HasPlaces instance.now }
+    requires budget { budget ≤ MAX_SPLITS }
     ensures { IfOk result (IsOutcome instance.now graph.now budget) }
 {
     let mut master = Master::new(alloc, instance, graph)?;
     let first = first_state(alloc, instance, graph, &mut master)?;
-    let state = grown(alloc, instance, graph, master, first, budget)?;
+    let last = grown(alloc, instance, graph, &mut master, first, budget)?;
+    let state = shortened(instance, graph, &mut master, last)?;
     match open_leaf(&state) {
         None => closed_outcome(alloc, instance, graph, state, budget),
         Some(index) => open_outcome(alloc, instance, graph, state, index, budget),
@@ -59,23 +62,24 @@ fn grown(
     alloc: Global,
     instance: &Instance,
     graph: &FlowGraph,
-    mut master: Master,
+    master: &mut Master,
     first: State,
     budget: u32,
 ) -> Result<State, Memory>
     requires faithful { IsFaithful instance.now graph.now }
-    requires master { IsMasterOf instance.now graph.now master }
+    requires master { IsMasterOf instance.now graph.now master.old }
     requires state { IsState instance.now graph.now first }
     requires none { splits_of first.tree.places ≡ 0 }
     ensures state { IfOk result (IsState instance.now graph.now) }
     ensures few { IfOk result (λ s. splits_of s.tree.places ≤ budget) }
     ensures all { IfOk result (λ s. (splits_of s.tree.places ≡ budget) ⊎ LeavesReach (goal_of s.best) s.tree) }
+    ensures master { master.new ≡ master.old }
 {
     let mut state = first;
     for made in 0..budget {
         match open_leaf(&state) {
             None => return Ok(state),
-            Some(index) => state = split_leaf(alloc, instance, graph, &mut master, state, index)?,
+            Some(index) => state = split_leaf(alloc, instance, graph, master, state, index)?,
         }
     }
     Ok(state)

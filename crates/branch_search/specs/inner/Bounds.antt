@@ -1,5 +1,5 @@
 -- The least bound of the leaves of a tree.
-use Rattle.std.specs.Prelude.{◌≡◌, ◌⊎◌, ℕ, ◌≤◌, List, Option, None, Some, All, min}
+use Rattle.std.specs.Prelude.{◌≡◌, ℕ, ◌≤◌, List, Option, None, Some, All, min}
 use Rattle.arc_num.specs.declared.TheConstants.{MAX_PRICE}
 use Rattle.cert_text.specs.declared.lines.Claim.{Claim}
 use Rattle.cert_text.specs.declared.lines.Claim.TheVariants.{Bound, Empty}

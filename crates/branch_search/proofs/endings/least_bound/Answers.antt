@@ -1,4 +1,3 @@
-use Rattle.std.proofs.Common.{◌≡◌, rules}
 use Rattle.branch_search.proofs.LastStates.{least_more}
 use Rattle.branch_search.proofs.endings.least_bound.Goals as goal
 

@@ -1,4 +1,4 @@
-use Rattle.std.proofs.Common.{◌≡◌, take}
+use Rattle.std.proofs.Common.{take}
 use Rattle.branch_search.specs.inner.Bounds.{IsLeastBound}
 use Rattle.branch_search.proofs.endings.least_bound.Given as goal
 

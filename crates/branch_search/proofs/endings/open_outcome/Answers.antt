@@ -1,4 +1,4 @@
-use Rattle.std.proofs.Common.{◌≡◌, ◌+◌, ◌<◌, ◌≤◌, ℕ, ◌∙◌, ap, sym, subst, refl, arith, List, Option}
+use Rattle.std.proofs.Common.{◌<◌, ◌≤◌, ℕ, ◌∙◌, sym, subst, refl, arith, List, Option}
 use Rattle.std.specs.Prelude.{IfSome}
 use Rattle.std.specs.Option.{IsSomeAnd}
 use Rattle.packing_laws.specs.declared.packings.Bin.{Bin}
@@ -23,9 +23,8 @@ returns c =
     let made = c.in_ok-certificate.ensures in
     let few = points I g s st c.args.index leaf lower least c.open_trees_have_points.ensures c.flows_lie_in_root.ensures c.known-2.ensures in
     let splits = c.requires.splits in
-    let fewer = made.fewer in
     record {
-      certificate = record { version = made.told.0; claim_told = made.told.1; goal_told = made.told.2; certified = made.certified; splits = omega (arith, fewer, splits) };
+      certificate = made.told;
       all = made.all refl ∙ splits;
       points = omega (arith, few, splits);
       material = material_reached I g s st c.args.index leaf lower least;

@@ -1,4 +1,4 @@
-use Rattle.std.proofs.Common.{◌≡◌, inr, ap, is_some, Option, ℕ}
+use Rattle.std.proofs.Common.{inr, ap, is_some, Option, ℕ}
 use Rattle.branch_search.proofs.searching.grown.Goals as goal
 
 pub returns-in-None-clause-all : goal.returns-in-None-clause-all
