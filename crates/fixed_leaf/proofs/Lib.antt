@@ -11,5 +11,4 @@ pub mod Priced
 pub mod Settles
 pub mod Settling
 pub mod Told
-pub mod WorkedBoxes
 pub mod ChordFlags

@@ -8,8 +8,6 @@ mod heights;
 mod joints;
 mod leaf;
 mod prices;
-#[cfg(test)]
-mod tests;
 mod values;
 
 pub use chords::chords_of;

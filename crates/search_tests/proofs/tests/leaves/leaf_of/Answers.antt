@@ -2,9 +2,9 @@ use Rattle.std.proofs.Common.{◌≡◌, ℕ, List, sym, subst, rules}
 use Rattle.packing_laws.specs.Instances.{InstanceValue}
 use Rattle.flow_graph.specs.Arcs.{TypeValue}
 use Rattle.flow_model.specs.Boxes.{LiesWithin, root_ranges}
-use Rattle.fixed_leaf.specs.Worked.{both_graphs, box_of, three_in_two}
-use Rattle.fixed_leaf.proofs.WorkedBoxes.{lies_within}
-use Rattle.fixed_leaf.proofs.tests.leaf_of.Goals as goal
+use Rattle.search_tests.specs.Worked.{both_graphs, box_of, three_in_two}
+use Rattle.search_tests.proofs.WorkedBoxes.{lies_within}
+use Rattle.search_tests.proofs.tests.leaves.leaf_of.Goals as goal
 
 pub fixed_leaf-requires-clause-within : goal.fixed_leaf-requires-clause-within
 fixed_leaf-requires-clause-within c =

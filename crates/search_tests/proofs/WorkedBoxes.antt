@@ -4,7 +4,7 @@ use Rattle.std.specs.Prelude.{replicate}
 use Rattle.packing_laws.specs.Instances.{IsAmong}
 use Rattle.flow_graph.specs.Chords.{range_at}
 use Rattle.flow_model.specs.Boxes.{LiesWithin, root_ranges}
-use Rattle.fixed_leaf.specs.Worked.{both_graphs, box_of, three_in_two}
+use Rattle.search_tests.specs.Worked.{both_graphs, box_of, three_in_two}
 
 by_six : (P : ℕ → Type 0) → P 1 → P 2 → P 3 → P 4 → P 5 → P 6 → (a : ℕ) → IsAmong a 6 → P a
 by_six P one two three four five six zero among = absurd (omega (arith, among.0))

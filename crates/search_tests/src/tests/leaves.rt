@@ -1,11 +1,11 @@
 //! Boxes that are worked by hand: three units of an item, bins that hold two of them for 3, and bins that hold none for 5.
 
 ghost use Rattle.std.specs.Prelude.{◌≡◌, ◌≤◌, ◌∷◌, [], None, IfOk, IfSome};
-ghost use Rattle.fixed_leaf.specs.Worked.{both_graphs, box_of, three_in_two};
+ghost use Rattle.search_tests.specs.Worked.{both_graphs, box_of, three_in_two};
 
-use crate::{FixedLeaf, OnlyFlow, fixed_leaf};
 use arc_num::{Listed, Memory};
 use cert_text::{ArcPrice, ItemPrice, Prices};
+use fixed_leaf::{FixedLeaf, OnlyFlow, fixed_leaf};
 use flow_graph::FlowGraph;
 use flow_model::{Flow, FlowBox, graph_of_two, root_box};
 use packing_laws::{BinType, Instance, Item, Numbers, Vectors};

@@ -1,0 +1,2 @@
+pub mod WorkedBoxes
+pub mod WorkedTree

@@ -1,0 +1,6 @@
+mod fixtures;
+mod leaves;
+mod masters;
+mod searches;
+mod states;
+mod trees;
