@@ -27,7 +27,7 @@ use Rattle.arc_program.specs.commands.Check.{IsUnjudged, Says}
 use Rattle.arc_program.specs.commands.Extract.{IsCompiled}
 use Rattle.arc_program.specs.inner.Checking.{Judged, StopsSound, IsSo, Tells, Stops}
 use Rattle.arc_program.specs.inner.Work.{Works}
-use Rattle.arc_program.proofs.TextLemmas.{may_have_read, may_have_taken, may_have_failed}
+use Rattle.arc_program.proofs.SourceLemmas.{may_have_read, may_have_taken, may_have_failed}
 
 module _ (name certificate : List ℕ) (mvp : Bool) (workers : ℕ) (I : InstanceValue) (g : List TypeValue) (compiled : IsCompiled I g) (small : IsSmall I) (before after : ShelfSeen) where
   abbrev request : Request
@@ -55,9 +55,9 @@ module _ (name certificate : List ℕ) (mvp : Bool) (workers : ℕ) (I : Instanc
   pub judged_works : (v : Verdict) (r : Result Report WorkFault) → Judged I g certificate (Ok v) before after → IsSo I v → Tells certificate v r → Works request I before after r
   judged_works (Shown claim) (Ok report) judged so tells = (
     subst IsReported (sym tells.1) tt,
-    record { graph = g; compiled = compiled; small = small; claim = claim; accepted = judged.0; shows = so; text_is = tells.0; status_is = tells.1 },
+    (record { graph = g; compiled = compiled; small = small; claim = claim; accepted = judged.0; shows = so; text_is = tells.0; status_is = tells.1 }, tells.2),
     judged.1,
-    tells.2,
+    tells.3,
   )
   judged_works (Shown claim) (Err fault) judged so tells = subst (λ (f : WorkFault). Works request I before after (Err f)) (sym tells) (inr (text_of, refl, may_have_read certificate MAX_CERT before after judged.1))
   judged_works (Faulty number cause) (Ok report) judged so tells = absurd tells

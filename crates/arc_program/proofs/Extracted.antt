@@ -33,7 +33,7 @@ use Rattle.arc_program.specs.inner.Loading.{Loads}
 use Rattle.arc_program.specs.inner.Work.{Works}
 use Rattle.arc_program.specs.inner.Extracting.{IsKeptText, Judges}
 use Rattle.arc_program.proofs.KeptLemmas.{kept_cost, kept_packing}
-use Rattle.arc_program.proofs.TextLemmas.{may_have_read, may_have_failed}
+use Rattle.arc_program.proofs.SourceLemmas.{may_have_read, may_have_failed}
 
 module _ (I : InstanceValue) (name bytes : List ℕ) where
   pub judges_starved : (r : Result Report WorkFault) → IsErrAnd r (λ fault. fault ≡ work.Memory) → Judges I name bytes r
@@ -48,8 +48,8 @@ module _ (I : InstanceValue) (name bytes : List ℕ) where
       pub judges_row : (row : FlowRow) (line : Line) (r : WorkFault) → FirstBadRow I g values (Some row) → line ≡ named_line name (row_said g row) → r ≡ work.Rejected line BadSolution → Judges I name bytes (Err r)
       judges_row row line r first said is = subst (λ (f : WorkFault). Judges I name bytes (Err f)) (sym is) (refl, inr (inr (record { graph = g; compiled = compiled; values = values; given = (short, meant); row = row; first = first; line_is = said })))
 
-      pub judges_packing : IsSmall I → (found : List Bin) (text : List ℕ) → IsPackingOf I g values found → IsKeptText I found text → (report : Report) → report.status ≡ Done → report.text ≡ text → report.certificate ≡ None → Judges I name bytes (Ok report)
-      judges_packing small found text packing kept report status_is text_is alone =
+      pub judges_packing : IsSmall I → (found : List Bin) (text : List ℕ) → IsPackingOf I g values found → IsKeptText I found text → (report : Report) → report.status ≡ Done → report.text ≡ text → report.made ≡ None → report.certificate ≡ None → Judges I name bytes (Ok report)
+      judges_packing small found text packing kept report status_is text_is unmade alone =
           let printed : report.text ≡ packing_text (flow_cost I g values) kept.bins = text_is ∙ kept.text_is ∙ ap (λ (n : ℕ). packing_text n kept.bins) packing.cost in (
             subst IsReported (sym status_is) tt,
             record {
@@ -67,6 +67,7 @@ module _ (I : InstanceValue) (name bytes : List ℕ) where
               text_is = printed;
               status_is = status_is;
             },
+            unmade,
             alone,
           )
 
@@ -109,7 +110,7 @@ module _ (name solution : List ℕ) (mvp : Bool) (I : InstanceValue) (before aft
 
   -- the bytes were read, and what they lead to is known
   pub judged_works : IsSmall I → (bytes : List ℕ) (r : Result Report WorkFault) → Loads solution (Ok bytes) before after → Judges I solution bytes r → Works request I before after r
-  judged_works small bytes (Ok report) loads judged = (judged.0, extracted_told I bytes (before.held solution) report.status report.text loads.1 judged.1, loads.2, judged.2)
+  judged_works small bytes (Ok report) loads judged = (judged.0, (extracted_told I bytes (before.held solution) report.status report.text loads.1 judged.1, judged.2), loads.2, judged.3)
   judged_works small bytes (Err (work.Large t)) loads judged = absurd judged
   judged_works small bytes (Err (work.Unread unread)) loads judged = absurd judged
   judged_works small bytes (Err (work.Rejected line status)) loads judged =

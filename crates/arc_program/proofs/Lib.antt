@@ -4,9 +4,10 @@ pub mod PrintLemmas
 pub mod Told
 pub mod StoreLemmas
 pub mod WorkLemmas
+pub mod FlowTexts
+pub mod SourceLemmas
 pub mod TextLemmas
 pub mod KeptLemmas
-pub mod FlowTexts
 pub mod Certain
 pub mod Checked
 pub mod Readings
@@ -14,6 +15,9 @@ pub mod Certified
 pub mod Extracted
 pub mod Seconds
 pub mod RunLemmas
+pub mod Found
+pub mod Bounded
+pub mod Decided
 pub mod ExactLemmas
 pub mod ReportLemmas
 pub mod Exported

@@ -19,7 +19,7 @@ use Rattle.arc_program.specs.World.{ShelfSeen}
 use Rattle.arc_program.specs.Reading.{TakesFirst}
 use Rattle.arc_program.specs.inner.Loading.{TakesAtMost}
 use Rattle.arc_program.specs.inner.Checking.{Brings, IsEnough, ReadsOut, CountsRead, Concludes, ReadsJudged, Judged, IsSo}
-use Rattle.arc_program.proofs.TextLemmas.{one_asked, may_have_read}
+use Rattle.arc_program.proofs.SourceLemmas.{one_asked, may_have_read}
 use Rattle.arc_program.proofs.Certain.{certain_not_shown}
 
 -- the name that was asked for stays

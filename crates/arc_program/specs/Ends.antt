@@ -1,18 +1,20 @@
 -- How a run ends: by its status, why it ended so, what it did to the shelf, what its report on `out` is, and what it said on `err`.
-use Rattle.std.specs.Prelude.{◌≡◌, ℕ, ◌⊎◌, List, Option, None, Some, IfSome, IsSomeAnd, Result, Ok, Err}
-use Rattle.arc_num.specs.declared.TheConstants.{MAX_INSTANCE}
+use Rattle.std.specs.Prelude.{◌≡◌, ◌≢◌, ℕ, ◌⊎◌, List, Option, None, Some, IfSome, IsSomeAnd, Result, Ok, Err}
 use Rattle.arc_io.specs.declared.IoFault.TheVariants as io
 use Rattle.arc_io.specs.Bytes.{Told, Files}
 use Rattle.arc_io.specs.Faults.{Rose}
 use Rattle.packing_laws.specs.declared.fault.ReadFault.{ReadFault}
 use Rattle.packing_laws.specs.Instances.{InstanceValue}
+use Rattle.flow_graph.specs.Arcs.{TypeValue}
+use Rattle.cert_text.specs.declared.lines.Certificate.{Certificate}
 use Rattle.arc_compile.specs.Graphs.{IsSmall, IsTooLarge}
 use Rattle.command_words.specs.declared.faults.WordFault.{WordFault}
 use Rattle.arc_program.specs.declared.status.Status.{Status}
 use Rattle.arc_program.specs.declared.status.Status.TheVariants.{Done, Bracketed, Usage, BadInstance, BadCertificate, ReadFault as ReadFaults, WriteFault, NoMemory, TooLarge, BadSolution}
 use Rattle.command_words.specs.Requests.{Request}
 use Rattle.arc_program.specs.World.{ShelfSeen, World}
-use Rattle.arc_program.specs.Reading.{HasRead, HasFailed, MayHaveRead}
+use Rattle.arc_program.specs.Reading.{HasFailed, MayHaveRead}
+use Rattle.arc_program.specs.Sources.{HasReadInstance, HasFailedInstance, MayHaveReadInstance}
 use Rattle.arc_program.specs.Texts.{TextValue, second_text, second_held, ThenReads, ReadsRefused}
 use Rattle.arc_program.specs.Writing.{HasFailedToWrite, MayHaveWritten, WriteRose}
 use Rattle.arc_program.specs.Stored.{ThenWrites, HasDoneAll}
@@ -20,23 +22,25 @@ use Rattle.arc_program.specs.Printing.{Line, PutsOnce, PutsText, CutsOff}
 use Rattle.command_words.specs.Lines.{word_fault_line}
 use Rattle.arc_program.specs.Refusals.{unread_line, long_line, place_line, large_line, unstored_line, output_line, memory_line}
 use Rattle.command_words.specs.Requests.{name_of, certificate_of, MakesGraphs}
-use Rattle.arc_program.specs.Requests.{Writes, IsRead, IsLong, IsBadAt, IsRefused, IsLargeAt, IsGood}
+use Rattle.arc_program.specs.Requests.{Writes, ReadsInstance, IsGiven, IsLong, IsBadAt, IsAsked, IsGood, HasNoInstance}
 use Rattle.arc_program.specs.Statuses.{IsReported}
 use Rattle.arc_program.specs.commands.{IsReport, IsRejection, IsFit, StopsUndecided, IsBeside}
+use Rattle.arc_program.specs.commands.Extract.{IsCompiled}
+use Rattle.arc_program.specs.Headline.{GrantsEnough}
 
--- the text is a report that is owed for the instance under the name that is asked about, and for the second text; this is the
--- status of a run that prints it, and the certificate is what is to be written beside it
-pub record IsOwed (request : Request) (shelf : ShelfSeen) (status : Status) (text : List ℕ) (certificate : Option (List ℕ)) : Type 0 where
+-- the text is a report that is owed for the instance that is asked about, and for the second text; this is the status of a run
+-- that prints it, `made` is the certificate of an outcome that it tells, and `certificate` is what is to be written beside it
+pub record IsOwed (request : Request) (shelf : ShelfSeen) (status : Status) (text : List ℕ) (made : Option Certificate) (certificate : Option (List ℕ)) : Type 0 where
   pub instance : InstanceValue
-  pub read : IsRead request shelf.held instance
-  pub report : IsReport request (second_held request shelf.held) instance status text
-  pub beside : IsBeside (certificate_of request) request instance text certificate
+  pub given : IsGiven request shelf.held instance
+  pub report : IsReport request (second_held request shelf.held) instance status text made
+  pub beside : IsBeside (certificate_of request) request instance text made certificate
 
 -- the certificate was written, where one is asked for, the report was taken whole, and nothing was said
-pub record Reports (request : Request) (before after : World) (status : Status) : Type 0 where
+pub record Reports (request : Request) (before after : World) (made : Option Certificate) (status : Status) : Type 0 where
   pub text : List ℕ
   pub certificate : Option (List ℕ)
-  pub owed : IsOwed request before.shelf status text certificate
+  pub owed : IsOwed request before.shelf status text made certificate
   pub shelf : HasDoneAll request certificate before.shelf after.shelf
   pub printed : PutsText text before.out after.out
   pub silent : after.err ≡ before.err
@@ -50,8 +54,9 @@ SaysWhy request held line =
 -- the bytes are no instance; nothing was printed, and why was said
 pub record RefusesBytes (request : Request) (before after : World) : Type 0 where
   pub line : Line
+  pub reads : ReadsInstance request
   pub why : SaysWhy request (before.shelf.held (name_of request)) line
-  pub shelf : HasRead (name_of request) MAX_INSTANCE before.shelf after.shelf
+  pub shelf : HasReadInstance request before.shelf after.shelf
   pub unprinted : after.out ≡ before.out
   pub said : PutsOnce line before.err after.err
 
@@ -59,17 +64,17 @@ pub record RefusesBytes (request : Request) (before after : World) : Type 0 wher
 pub record RefusesGraphs (request : Request) (before after : World) : Type 0 where
   pub makes : MakesGraphs request
   pub instance : InstanceValue
-  pub read : IsRead request before.shelf.held instance
+  pub given : IsGiven request before.shelf.held instance
   pub t : ℕ
   pub large : IsTooLarge instance t
-  pub shelf : HasRead (name_of request) MAX_INSTANCE before.shelf after.shelf
+  pub shelf : HasReadInstance request before.shelf after.shelf
   pub unprinted : after.out ≡ before.out
   pub said : PutsOnce (large_line (name_of request) t) before.err after.err
 
 -- the line says why the second text is refused for the instance that was read, which is small where graphs are made of it
 pub record IsOwedRejection (request : Request) (text : TextValue) (shelf : ShelfSeen) (line : Line) : Type 0 where
   pub instance : InstanceValue
-  pub read : IsRead request shelf.held instance
+  pub given : IsGiven request shelf.held instance
   pub small : MakesGraphs request → IsSmall instance
   pub why : IsRejection request (shelf.held text.name) instance line
 
@@ -86,14 +91,14 @@ pub record RefusesSecond (request : Request) (before after : World) (status : St
 -- the instance was read, and a read of the second text failed, before what was taken of this text decided anything
 pub record FailsSecond (request : Request) (text : TextValue) (before after : ShelfSeen) : Type 0 where
   pub instance : InstanceValue
-  pub read : IsRead request before.held instance
+  pub given : IsGiven request before.held instance
   pub reads : ThenReads request text HasFailed before after
   pub undecided : StopsUndecided request instance (before.held text.name) reads.between after
 
 -- a read of the text under this name failed: of the instance, or of the second text behind it
 abbrev pub FailsAt : Request → List ℕ → ShelfSeen → ShelfSeen → Type 0
 FailsAt request name before after =
-    ((name ≡ name_of request) × HasFailed (name_of request) MAX_INSTANCE before after)
+    ((name ≡ name_of request) × HasFailedInstance request before after)
     ⊎ ((text : TextValue) × (name ≡ text.name) × FailsSecond request text before after)
 
 -- a read failed; nothing was printed, and the name that could not be read was said
@@ -107,8 +112,9 @@ pub record CannotRead (request : Request) (before after : World) : Type 0 where
 pub record CannotStore (request : Request) (before after : World) : Type 0 where
   pub text : List ℕ
   pub status : Status
+  pub made : Option Certificate
   pub certificate : Option (List ℕ)
-  pub owed : IsOwed request before.shelf status text certificate
+  pub owed : IsOwed request before.shelf status text made certificate
   pub shelf : ThenWrites request certificate HasFailedToWrite before.shelf after.shelf
   pub unprinted : after.out ≡ before.out
   pub said : PutsOnce (unstored_line shelf.name) before.err after.err
@@ -117,8 +123,9 @@ pub record CannotStore (request : Request) (before after : World) : Type 0 where
 pub record CannotPrint (request : Request) (before after : World) : Type 0 where
   pub text : List ℕ
   pub status : Status
+  pub made : Option Certificate
   pub certificate : Option (List ℕ)
-  pub owed : IsOwed request before.shelf status text certificate
+  pub owed : IsOwed request before.shelf status text made certificate
   pub shelf : HasDoneAll request certificate before.shelf after.shelf
   pub printed : CutsOff io.Failed text before.out after.out
   pub said : PutsOnce output_line before.err after.err
@@ -131,23 +138,25 @@ CannotWrite request before after = CannotStore request before after ⊎ CannotPr
 pub record Starves (request : Request) (before after : World) : Type 0 where
   pub text : List ℕ
   pub status : Status
+  pub made : Option Certificate
   pub certificate : Option (List ℕ)
-  pub owed : IsOwed request before.shelf status text certificate
+  pub owed : IsOwed request before.shelf status text made certificate
   pub shelf : HasDoneAll request certificate before.shelf after.shelf
   pub printed : CutsOff io.Memory text before.out after.out
 
 -- the instance may have been read, or it was, and the second text may have been
 abbrev pub MayHaveReadAll : Request → ShelfSeen → ShelfSeen → Type 0
 MayHaveReadAll request before after =
-    MayHaveRead (name_of request) MAX_INSTANCE before after
+    MayHaveReadInstance request before after
     ⊎ ((text : TextValue) × ThenReads request text MayHaveRead before after)
 
 -- all texts were read, and some of the certificate that is owed was written, maybe none
 pub record MayHaveStored (request : Request) (before after : ShelfSeen) : Type 0 where
   pub text : List ℕ
   pub status : Status
+  pub made : Option Certificate
   pub certificate : Option (List ℕ)
-  pub owed : IsOwed request before status text certificate
+  pub owed : IsOwed request before status text made certificate
   pub shelf : ThenWrites request certificate MayHaveWritten before after
 
 -- the texts may have been read, and the certificate may have been written
@@ -160,18 +169,18 @@ pub record LacksMemory (request : Request) (before after : World) : Type 0 where
   pub printed : (after.out ≡ before.out) ⊎ Starves request before after
   pub said : PutsOnce memory_line before.err after.err
 
--- how a run ends that is asked for something
-abbrev pub Answers : Request → World → World → Status → Type 0
-Answers request before after Done = Reports request before after Done
-Answers request before after Bracketed = Reports request before after Bracketed
-Answers request before after Usage = ⊥
-Answers request before after BadInstance = RefusesBytes request before after
-Answers request before after BadCertificate = RefusesSecond request before after BadCertificate
-Answers request before after ReadFaults = CannotRead request before after
-Answers request before after WriteFault = CannotWrite request before after
-Answers request before after NoMemory = LacksMemory request before after
-Answers request before after TooLarge = RefusesGraphs request before after
-Answers request before after BadSolution = RefusesSecond request before after BadSolution
+-- how a run ends that is asked for something, and leaves this certificate
+abbrev pub Answers : Request → World → World → Option Certificate → Status → Type 0
+Answers request before after made Done = Reports request before after made Done
+Answers request before after made Bracketed = Reports request before after made Bracketed
+Answers request before after made Usage = ⊥
+Answers request before after made BadInstance = RefusesBytes request before after
+Answers request before after made BadCertificate = RefusesSecond request before after BadCertificate
+Answers request before after made ReadFaults = CannotRead request before after
+Answers request before after made WriteFault = CannotWrite request before after
+Answers request before after made NoMemory = LacksMemory request before after
+Answers request before after made TooLarge = RefusesGraphs request before after
+Answers request before after made BadSolution = RefusesSecond request before after BadSolution
 
 -- how a run ends whose words have this fault: it says so, or lacks memory; nothing is read and nothing printed
 pub record RefusesWords (fault : WordFault) (before after : World) (status : Status) : Type 0 where
@@ -180,9 +189,13 @@ pub record RefusesWords (fault : WordFault) (before after : World) (status : Sta
   pub said : ((status ≡ Usage) × PutsOnce (word_fault_line fault) before.err after.err) ⊎ ((status ≡ NoMemory) × PutsOnce memory_line before.err after.err)
 
 -- how a run ends, by what the words ask for
-abbrev pub Ends : Result Request WordFault → World → World → Status → Type 0
-Ends (Ok request) before after status = Answers request before after status
-Ends (Err fault) before after status = RefusesWords fault before after status
+abbrev pub Ends : Result Request WordFault → World → World → Option Certificate → Status → Type 0
+Ends (Ok request) before after made status = Answers request before after made status
+Ends (Err fault) before after made status = RefusesWords fault before after status
+
+-- no certificate is left, unless the report was taken whole
+abbrev pub LeavesNone : Option Certificate → Status → Type 0
+LeavesNone made status = IsReported status ⊎ (made ≡ None)
 
 -- what is written on the shelf is what is asked for
 abbrev pub KeepsTo : Result Request WordFault → ShelfSeen → ShelfSeen → Type 0
@@ -202,15 +215,16 @@ abbrev pub HasFit : Request → Files → InstanceValue → Option TextValue →
 HasFit request held I None = Unit {0}
 HasFit request held I (Some text) = IsSomeAnd (held text.name) (IsFit request I)
 
--- what the bytes under the names must lead to
-pub record MustEnd (request : Request) (bytes : List ℕ) (before after : World) (status : Status) : Type 0 where
-  pub refused : IsRefused request bytes → ComesOut BadInstance status
-  pub large : (t : ℕ) → MakesGraphs request → IsLargeAt request t bytes → ComesOut TooLarge status
-  pub rejected : (I : InstanceValue) (text : TextValue) → second_text request ≡ Some text → IsGood request bytes I → IsRejected request (before.shelf.held text.name) I → ComesOut text.refused status
-  pub accepted : (I : InstanceValue) → IsGood request bytes I → HasFit request before.shelf.held I (second_text request) → ¬ Rose before.shelf.read_faults after.shelf.read_faults → ¬ WriteRose (certificate_of request) before.shelf after.shelf → ¬ Rose before.out.faults after.out.faults → IsReported status ⊎ (status ≡ NoMemory)
+-- what the instance that is asked about must lead to, and the bytes under the names
+pub record MustEnd (request : Request) (before after : World) (status : Status) : Type 0 where
+  pub refused : HasNoInstance request before.shelf.held → ComesOut BadInstance status
+  pub large : (I : InstanceValue) (t : ℕ) → MakesGraphs request → IsAsked request before.shelf.held I → IsTooLarge I t → ComesOut TooLarge status
+  pub rejected : (I : InstanceValue) (text : TextValue) → second_text request ≡ Some text → IsGood request before.shelf.held I → IsRejected request (before.shelf.held text.name) I → ComesOut text.refused status
+  pub accepted : (I : InstanceValue) → IsGood request before.shelf.held I → HasFit request before.shelf.held I (second_text request) → ¬ Rose before.shelf.read_faults after.shelf.read_faults → ¬ WriteRose (certificate_of request) before.shelf after.shelf → ¬ Rose before.out.faults after.out.faults → IsReported status ⊎ (status ≡ NoMemory)
+  pub settled : (I : InstanceValue) (g : List TypeValue) → IsAsked request before.shelf.held I → IsCompiled I g → GrantsEnough request I g → status ≢ Bracketed
 
--- each cause is seen: a fault of the words, and where the bytes under the name are told, theirs; nothing else comes where they spell an
--- instance and nothing failed
+-- each cause is seen: a fault of the words, and that of the instance that is asked about; nothing else comes where there is an instance and
+-- nothing failed, and no bracket where the splits that are granted are enough
 abbrev pub IsExact : Result Request WordFault → World → World → Status → Type 0
-IsExact (Ok request) before after status = IfSome (before.shelf.held (name_of request)) (λ bytes. MustEnd request bytes before after status)
+IsExact (Ok request) before after status = MustEnd request before after status
 IsExact (Err fault) before after status = (status ≡ Usage) ⊎ (status ≡ NoMemory)

@@ -8,9 +8,11 @@ pub mod Reports
 pub mod Refusals
 pub mod Statuses
 pub mod Requests
+pub mod Sources
 pub mod Kept
 pub mod Rejections
 pub mod Verdicts
 pub mod commands
+pub mod Headline
 pub mod Ends
 pub mod inner

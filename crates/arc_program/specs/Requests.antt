@@ -1,13 +1,15 @@
--- What a request says of the bytes under the name that it asks about, and what it may write.
-use Rattle.std.specs.Prelude.{ℕ, ◌<◌, ◌≤◌, ◌⊎◌, Bool, true, false, List, length, IfSome}
+-- What a request says of the instance that it asks about, and what it may write.
+use Rattle.std.specs.Prelude.{◌≡◌, ℕ, ◌<◌, ◌≤◌, ◌⊎◌, Bool, true, false, List, length, IfSome}
+use Rattle.std.specs.Option.{IsSomeAnd}
 use Rattle.arc_num.specs.declared.TheConstants.{MAX_INSTANCE}
 use Rattle.arc_io.specs.Bytes.{Files}
-use Rattle.arc_compile.specs.Graphs.{IsSmall, IsTooLarge}
+use Rattle.arc_compile.specs.Graphs.{IsSmall}
 use Rattle.packing_laws.specs.declared.fault.ReadFault.{ReadFault}
 use Rattle.packing_laws.specs.Instances.{InstanceValue, IsInstance}
 use Rattle.packing_laws.specs.Layouts as layouts
 use Rattle.packing_laws.specs.Layouts.{Layout, Vbp, Mvp}
-use Rattle.command_words.specs.Requests.{Request, name_of, is_mvp_of, MakesGraphs, certificate_of}
+use Rattle.workload.specs.Generated.{generated_value}
+use Rattle.command_words.specs.Requests.{Request, SourceValue, Named, Generated, source_of, is_mvp_of, MakesGraphs, certificate_of}
 use Rattle.arc_program.specs.World.{ShelfSeen}
 use Rattle.arc_program.specs.Writing.{WritesUnder}
 
@@ -39,15 +41,42 @@ IsBadAt request bytes fault = (length bytes ≤ MAX_INSTANCE) × layouts.BadPlac
 abbrev pub IsRefused : Request → List ℕ → Type 0
 IsRefused request bytes = IsLong bytes ⊎ ((fault : ReadFault) × IsBadAt request bytes fault)
 
--- the bytes spell an instance whose graphs are too large from type t on
-abbrev pub IsLargeAt : Request → ℕ → List ℕ → Type 0
-IsLargeAt request t bytes = (I : InstanceValue) × IsAccepted request bytes I × IsTooLarge I t
+-- the instance is read under a name
+abbrev pub IsNamed : SourceValue → Type 0
+IsNamed (Named name mvp) = Unit {0}
+IsNamed (Generated seed size) = ⊥
 
--- the bytes spell the instance, which is small where graphs are made of it
-abbrev pub IsGood : Request → List ℕ → InstanceValue → Type 0
-IsGood request bytes I = IsAccepted request bytes I × (MakesGraphs request → IsSmall I)
+-- the request reads its instance
+abbrev pub ReadsInstance : Request → Type 0
+ReadsInstance request = IsNamed (source_of request)
 
--- the instance that was read: the bytes under the name spell it, where they are told
-pub record IsRead (request : Request) (held : Files) (I : InstanceValue) : Type 0 where
+-- the bytes under the name spell the instance, where they are told; or it is the generated one
+abbrev pub ComesFrom : SourceValue → Request → Files → InstanceValue → Type 0
+ComesFrom (Named name mvp) request held I = IfSome (held name) (λ bytes. IsAccepted request bytes I)
+ComesFrom (Generated seed size) request held I = I ≡ generated_value seed size
+
+-- an instance that may be the one that is asked about
+pub record IsGiven (request : Request) (held : Files) (I : InstanceValue) : Type 0 where
   pub known : IsInstance I
-  pub spelled : IfSome (held (name_of request)) (λ bytes. IsAccepted request bytes I)
+  pub from : ComesFrom (source_of request) request held I
+
+-- the bytes under the name are told, and spell the instance; or it is the generated one
+abbrev pub IsToldFrom : SourceValue → Request → Files → InstanceValue → Type 0
+IsToldFrom (Named name mvp) request held I = IsSomeAnd (held name) (λ bytes. IsAccepted request bytes I)
+IsToldFrom (Generated seed size) request held I = I ≡ generated_value seed size
+
+-- the one instance that is asked about
+abbrev pub IsAsked : Request → Files → InstanceValue → Type 0
+IsAsked request held I = IsToldFrom (source_of request) request held I
+
+-- and it is small where graphs are made of it
+abbrev pub IsGood : Request → Files → InstanceValue → Type 0
+IsGood request held I = IsAsked request held I × (MakesGraphs request → IsSmall I)
+
+-- the bytes under the name are told, and are no instance
+abbrev pub IsRefusedFrom : SourceValue → Request → Files → Type 0
+IsRefusedFrom (Named name mvp) request held = IsSomeAnd (held name) (IsRefused request)
+IsRefusedFrom (Generated seed size) request held = ⊥
+
+abbrev pub HasNoInstance : Request → Files → Type 0
+HasNoInstance request held = IsRefusedFrom (source_of request) request held

@@ -1,6 +1,6 @@
 //! What each command does with an instance that was read. A command is a file here and one in `specs/commands/`.
 
-ghost use Rattle.command_words.specs.Requests.{request_of, HasWorkers};
+ghost use Rattle.command_words.specs.Requests.{request_of, IsInRanges};
 ghost use Rattle.arc_program.specs.World.{shelf_seen};
 ghost use Rattle.arc_program.specs.Reading.{KeepsWritten};
 ghost use Rattle.arc_program.specs.inner.Work.{Works};
@@ -10,6 +10,7 @@ mod check;
 mod compile;
 mod export;
 mod extract;
+mod make;
 mod solve;
 
 use crate::loading::Text;
@@ -17,17 +18,20 @@ use crate::status::Status;
 use arc_compile::CompileFault;
 use arc_io::Shelf;
 use arc_num::Memory;
+use cert_text::Certificate;
 use command_words::Command;
 use packing_laws::Instance;
 use std::alloc::Global;
 use std::thread::Threads;
 use thiserror::Error;
 
-/// A report, the status of a run that prints it, and the certificate that is to be written before, where one is asked for.
+/// A report, the status of a run that prints it, the certificate of the outcome that it tells, and the text of a certificate that is
+/// to be written before, where one is asked for.
 #[derive(Debug, Drop)]
 pub struct Report {
     pub text: Text,
     pub status: Status,
+    pub made: Option<Certificate>,
     pub certificate: Option<Text>,
 }
 
@@ -80,13 +84,18 @@ pub fn work_on<R: Threads + Sync, H: Shelf>(
     instance: &Instance,
     shelf: &mut H,
 ) -> Result<Report, WorkFault>
-    requires { HasWorkers (request_of command.now) }
+    requires { IsInRanges (request_of command.now) }
     ensures works { Works (request_of command.now) instance.now (shelf_seen H.Shelf shelf.old) (shelf_seen H.Shelf shelf.new) result }
     ensures writes { KeepsWritten (shelf_seen H.Shelf shelf.old) (shelf_seen H.Shelf shelf.new) }
 {
     match command {
         Command::Compile { workers, .. } => Ok(compile::report(rt, alloc, instance, *workers)?),
-        Command::Solve { .. } => Ok(solve::report(alloc, instance)?),
+        Command::Solve {
+            nodes,
+            cert,
+            workers,
+            ..
+        } => Ok(solve::report(rt, alloc, instance, *nodes, cert.is_some(), *workers)?),
         Command::Export { .. } => Ok(export::report(rt, alloc, instance)?),
         Command::Extract { solution, .. } => {
             extract::report(rt, alloc, instance, solution.as_str(), shelf)
@@ -95,5 +104,11 @@ pub fn work_on<R: Threads + Sync, H: Shelf>(
             check::report(rt, alloc, instance, cert.as_str(), *workers, shelf)
         }
         Command::Bound { cert, .. } => Ok(bound::report(alloc, instance, cert.is_some())?),
+        Command::Make {
+            seed,
+            size,
+            nodes,
+            workers,
+        } => Ok(make::report(rt, alloc, *seed, *size, instance, *nodes, *workers)?),
     }
 }

@@ -1,10 +1,9 @@
 //! The texts of reports.
 
 ghost use Rattle.std.specs.Prelude.{◌≡◌, ◌++◌, OnOk, IfOk, length};
-ghost use Rattle.arc_program.specs.Reports.{count_text, counts_text, bin_text, bins_text, bins_in, first_line, answer_text, kind_text, bound_text, dims_and_types, items_and_units, size_text, type_and_level, main_and_final, type_lines, arcs_line, graphs_text};
+ghost use Rattle.arc_program.specs.Reports.{count_text, counts_text, bin_text, bins_text, kind_text, bound_text, dims_and_types, items_and_units, size_text, type_and_level, main_and_final, type_lines, arcs_line, graphs_text};
 ghost use Rattle.flow_graph.specs.Arcs.{numbered};
 
-use crate::answers::Answer;
 use arc_compile::{Compiled, TypeSize};
 use arc_num::{Memory, push_bytes, push_number};
 use bound_certificates::{BoundKind, FoundBound};
@@ -49,52 +48,6 @@ pub fn push_bins(out: &mut Vec<u8>, bins: &[Bin]) -> Result<(), Memory>
         push_bin(out, bin)?;
     }
     Ok(())
-}
-
-fn push_first_line(out: &mut Vec<u8>, answer: &Answer) -> Result<(), Memory>
-    ensures { OnOk result (out.new.items ≡ out.old.items ++ first_line answer.now) }
-{
-    match answer {
-        Answer::Optimal { cost, .. } => {
-            push_bytes(out, b"optimal ")?;
-            push_number(out, *cost)?;
-            push_bytes(out, b"\n")
-        }
-        Answer::Bracket { lower, cost, .. } => {
-            push_bytes(out, b"bracket ")?;
-            push_number(out, *lower)?;
-            push_bytes(out, b" ")?;
-            push_number(out, *cost)?;
-            push_bytes(out, b"\n")
-        }
-        Answer::Unpacked { lower } => {
-            push_bytes(out, b"bracket ")?;
-            push_number(out, *lower)?;
-            push_bytes(out, b" none\n")
-        }
-        Answer::Infeasible => push_bytes(out, b"infeasible\n"),
-    }
-}
-
-fn push_bins_of(out: &mut Vec<u8>, answer: &Answer) -> Result<(), Memory>
-    ensures { OnOk result (out.new.items ≡ out.old.items ++ bins_text (bins_in answer.now)) }
-{
-    match answer {
-        Answer::Optimal { packing, .. } => push_bins(out, packing.bins()),
-        Answer::Bracket { packing, .. } => push_bins(out, packing.bins()),
-        Answer::Unpacked { .. } => Ok(()),
-        Answer::Infeasible => Ok(()),
-    }
-}
-
-/// The report of `solve`.
-pub fn solve_text(alloc: Global, answer: &Answer) -> Result<Vec<u8>, Memory>
-    ensures { IfOk result (λ text. text.items ≡ answer_text answer.now) }
-{
-    let mut out = Vec::new(alloc);
-    push_first_line(&mut out, answer)?;
-    push_bins_of(&mut out, answer)?;
-    Ok(out)
 }
 
 fn push_kind(out: &mut Vec<u8>, kind: BoundKind) -> Result<(), Memory>
@@ -159,7 +112,7 @@ fn push_type_and_level(out: &mut Vec<u8>, t: usize, level: (u128, u128)) -> Resu
     push_size(out, b" level ", level.0, level.1)
 }
 
-fn push_main_and_final(out: &mut Vec<u8>, size: TypeSize) -> Result<(), Memory>
+pub fn push_main_and_final(out: &mut Vec<u8>, size: TypeSize) -> Result<(), Memory>
     ensures { OnOk result (out.new.items ≡ out.old.items ++ main_and_final size) }
 {
     push_size(

@@ -31,6 +31,7 @@ fn main(rt: HostRuntime) -> ExitCode {
     let mut shelf = FileShelf::new(&rt, rt.alloc());
     let mut out = OutSink::new(&rt, rt.alloc());
     let mut err = ErrSink::new(&rt, rt.alloc());
+    let mut made = None;
     let status = run(
         &rt,
         rt.alloc(),
@@ -38,6 +39,7 @@ fn main(rt: HostRuntime) -> ExitCode {
         &mut shelf,
         &mut out,
         &mut err,
+        &mut made,
     );
     ExitCode::from(status.code())
 }

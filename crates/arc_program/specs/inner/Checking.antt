@@ -108,7 +108,7 @@ IsSo I TooLong = Unit {0}
 
 -- what is said of a certificate of this name, by its verdict
 abbrev pub Tells : List ℕ → Verdict → Result Report WorkFault → Type 0
-Tells name (Shown claim) (Ok report) = (report.text ≡ claim_text claim) × (report.status ≡ Done) × (report.certificate ≡ None)
+Tells name (Shown claim) (Ok report) = (report.text ≡ claim_text claim) × (report.status ≡ Done) × (report.made ≡ None) × (report.certificate ≡ None)
 Tells name (Shown claim) (Err fault) = fault ≡ work.Memory
 Tells name (Faulty number cause) (Ok report) = ⊥
 Tells name (Faulty number cause) (Err fault) = (fault ≡ work.Rejected (faulty_line name number cause) BadCertificate) ⊎ (fault ≡ work.Memory)

@@ -3,7 +3,9 @@ use Rattle.std.specs.Prelude.{◌≡◌, ℕ, ◌⊎◌, List, Option, IfSome, R
 use Rattle.arc_io.specs.declared.IoFault.{IoFault}
 use Rattle.arc_io.specs.declared.IoFault.TheVariants as io
 use Rattle.packing_laws.specs.Instances.{InstanceValue}
-use Rattle.arc_compile.specs.Graphs.{IsSmall, IsTooLarge}
+use Rattle.cert_text.specs.declared.lines.Certificate.{Certificate}
+use Rattle.arc_compile.specs.Graphs.{IsTooLarge}
+use Rattle.arc_program.specs.declared.performing.Finished.{Finished}
 use Rattle.command_words.specs.declared.faults.WordFault.{WordFault}
 use Rattle.arc_program.specs.declared.refusals.Refusal.{Refusal}
 use Rattle.arc_program.specs.declared.refusals.Refusal.TheVariants.{Words, Unread, Long, BadPlace, Large, Rejected, Unstored, Unwritten, Memory}
@@ -11,15 +13,14 @@ use Rattle.arc_program.specs.declared.status.Status.{Status}
 use Rattle.arc_program.specs.declared.status.Status.TheVariants.{NoMemory}
 use Rattle.command_words.specs.Requests.{Request}
 use Rattle.arc_program.specs.World.{ShelfSeen, SinkSeen}
-use Rattle.arc_num.specs.declared.TheConstants.{MAX_INSTANCE}
-use Rattle.arc_program.specs.Reading.{HasRead}
+use Rattle.arc_program.specs.Sources.{HasReadInstance}
 use Rattle.arc_program.specs.Texts.{TextValue, ThenReads, ReadsRefused}
 use Rattle.arc_program.specs.Writing.{HasFailedToWrite}
 use Rattle.arc_program.specs.Stored.{ThenWrites, HasDoneAll}
 use Rattle.arc_program.specs.Printing.{Line, PutsOnce, PutsText, CutsOff}
 use Rattle.arc_program.specs.Refusals.{refusal_line, refusal_status, memory_line}
 use Rattle.command_words.specs.Requests.{name_of, MakesGraphs}
-use Rattle.arc_program.specs.Requests.{IsRead, IsAccepted, IsLong, IsBadAt, IsLargeAt}
+use Rattle.arc_program.specs.Requests.{ReadsInstance, IsGiven, IsLong, IsBadAt}
 use Rattle.arc_program.specs.Statuses.{IsReported}
 use Rattle.arc_program.specs.Ends.{IsOwed, IsOwedRejection, FailsAt, MayHaveDoneAll}
 
@@ -27,16 +28,17 @@ use Rattle.arc_program.specs.Ends.{IsOwed, IsOwedRejection, FailsAt, MayHaveDone
 pub record IsCut (fault : IoFault) (request : Request) (before after : ShelfSeen) (old new : SinkSeen) : Type 0 where
   pub text : List ℕ
   pub status : Status
+  pub made : Option Certificate
   pub certificate : Option (List ℕ)
-  pub owed : IsOwed request before status text certificate
+  pub owed : IsOwed request before status text made certificate
   pub shelf : HasDoneAll request certificate before after
   pub printed : CutsOff fault text old new
 
 -- a report was taken whole
-pub record IsPrinted (request : Request) (before after : ShelfSeen) (old new : SinkSeen) (status : Status) : Type 0 where
+pub record IsPrinted (request : Request) (before after : ShelfSeen) (old new : SinkSeen) (made : Option Certificate) (status : Status) : Type 0 where
   pub text : List ℕ
   pub certificate : Option (List ℕ)
-  pub owed : IsOwed request before status text certificate
+  pub owed : IsOwed request before status text made certificate
   pub shelf : HasDoneAll request certificate before after
   pub printed : PutsText text old new
 
@@ -44,8 +46,9 @@ pub record IsPrinted (request : Request) (before after : ShelfSeen) (old new : S
 pub record IsUnstored (request : Request) (before after : ShelfSeen) (name : List ℕ) : Type 0 where
   pub text : List ℕ
   pub status : Status
+  pub made : Option Certificate
   pub certificate : Option (List ℕ)
-  pub owed : IsOwed request before status text certificate
+  pub owed : IsOwed request before status text made certificate
   pub shelf : ThenWrites request certificate HasFailedToWrite before after
   pub named : name ≡ shelf.name
 
@@ -53,7 +56,7 @@ pub record IsUnstored (request : Request) (before after : ShelfSeen) (name : Lis
 pub record IsLargeRead (request : Request) (before : ShelfSeen) (t : ℕ) : Type 0 where
   pub makes : MakesGraphs request
   pub instance : InstanceValue
-  pub read : IsRead request before.held instance
+  pub given : IsGiven request before.held instance
   pub large : IsTooLarge instance t
 
 -- the second text is refused
@@ -64,21 +67,21 @@ pub record IsRejectedRead (request : Request) (before after : ShelfSeen) (line :
   pub shelf : ThenReads request text (ReadsRefused request) before after
 
 -- what was done for a request: a report was printed, or there is a refusal
-abbrev pub CarriesOut : Request → ShelfSeen → ShelfSeen → SinkSeen → SinkSeen → Result Status Refusal → Type 0
-CarriesOut request before after old new (Ok status) = IsReported status × IsPrinted request before after old new status
+abbrev pub CarriesOut : Request → ShelfSeen → ShelfSeen → SinkSeen → SinkSeen → Result Finished Refusal → Type 0
+CarriesOut request before after old new (Ok finished) = IsReported finished.status × IsPrinted request before after old new finished.made finished.status
 CarriesOut request before after old new (Err (Words fault)) = ⊥
 CarriesOut request before after old new (Err (Unread name)) = FailsAt request (string_bytes name) before after × (new ≡ old)
-CarriesOut request before after old new (Err (Long name)) = (string_bytes name ≡ name_of request) × IfSome (before.held (name_of request)) IsLong × HasRead (name_of request) MAX_INSTANCE before after × (new ≡ old)
-CarriesOut request before after old new (Err (BadPlace name fault)) = (string_bytes name ≡ name_of request) × IfSome (before.held (name_of request)) (λ bytes. IsBadAt request bytes fault) × HasRead (name_of request) MAX_INSTANCE before after × (new ≡ old)
-CarriesOut request before after old new (Err (Large name t)) = (string_bytes name ≡ name_of request) × IsLargeRead request before t × HasRead (name_of request) MAX_INSTANCE before after × (new ≡ old)
+CarriesOut request before after old new (Err (Long name)) = (string_bytes name ≡ name_of request) × ReadsInstance request × IfSome (before.held (name_of request)) IsLong × HasReadInstance request before after × (new ≡ old)
+CarriesOut request before after old new (Err (BadPlace name fault)) = (string_bytes name ≡ name_of request) × ReadsInstance request × IfSome (before.held (name_of request)) (λ bytes. IsBadAt request bytes fault) × HasReadInstance request before after × (new ≡ old)
+CarriesOut request before after old new (Err (Large name t)) = (string_bytes name ≡ name_of request) × IsLargeRead request before t × HasReadInstance request before after × (new ≡ old)
 CarriesOut request before after old new (Err (Rejected line status)) = IsRejectedRead request before after line status × (new ≡ old)
 CarriesOut request before after old new (Err (Unstored name)) = IsUnstored request before after (string_bytes name) × (new ≡ old)
 CarriesOut request before after old new (Err Unwritten) = IsCut io.Failed request before after old new
 CarriesOut request before after old new (Err Memory) = MayHaveDoneAll request before after × ((new ≡ old) ⊎ IsCut io.Memory request before after old new)
 
 -- what was done for words that have a fault: nothing
-abbrev pub HasNothingDone : WordFault → Result Status Refusal → Type 0
-HasNothingDone fault (Ok status) = ⊥
+abbrev pub HasNothingDone : WordFault → Result Finished Refusal → Type 0
+HasNothingDone fault (Ok finished) = ⊥
 HasNothingDone fault (Err (Words refused)) = fault ≡ refused
 HasNothingDone fault (Err (Unread name)) = ⊥
 HasNothingDone fault (Err (Long name)) = ⊥
@@ -90,7 +93,7 @@ HasNothingDone fault (Err Unwritten) = ⊥
 HasNothingDone fault (Err Memory) = Unit {0}
 
 -- what was done for the words
-abbrev pub Performs : Result Request WordFault → ShelfSeen → ShelfSeen → SinkSeen → SinkSeen → Result Status Refusal → Type 0
+abbrev pub Performs : Result Request WordFault → ShelfSeen → ShelfSeen → SinkSeen → SinkSeen → Result Finished Refusal → Type 0
 Performs (Ok request) before after old new done = CarriesOut request before after old new done
 Performs (Err fault) before after old new done = (after ≡ before) × (new ≡ old) × HasNothingDone fault done
 
@@ -99,7 +102,3 @@ abbrev pub IsSaid : Refusal → Status → SinkSeen → SinkSeen → Type 0
 IsSaid refusal status before after =
     ((status ≡ refusal_status refusal) × PutsOnce (refusal_line refusal) before after)
     ⊎ ((status ≡ NoMemory) × PutsOnce memory_line before after)
-
--- no bytes spell an instance that is small and one that is too large
-abbrev pub SmallIsNotLarge : Type 0
-SmallIsNotLarge = (request : Request) (bytes : List ℕ) (I : InstanceValue) (t : ℕ) → IsAccepted request bytes I → IsSmall I → IsLargeAt request t bytes → ⊥

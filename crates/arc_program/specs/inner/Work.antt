@@ -41,7 +41,7 @@ MayHaveReadSecond request before after = (after ≡ before) ⊎ ((text : TextVal
 
 -- what the work on the instance gives, and what it does to the shelf
 abbrev pub Works : Request → InstanceValue → ShelfSeen → ShelfSeen → Result Report WorkFault → Type 0
-Works request I before after (Ok report) = IsReported report.status × IsReport request (second_held request before.held) I report.status report.text × HasReadSecond (second_text request) before after × IsBeside (certificate_of request) request I report.text report.certificate
+Works request I before after (Ok report) = IsReported report.status × IsReport request (second_held request before.held) I report.status report.text report.made × HasReadSecond (second_text request) before after × IsBeside (certificate_of request) request I report.text report.made report.certificate
 Works request I before after (Err (work.Large t)) = MakesGraphs request × IsTooLarge I t × (after ≡ before)
 Works request I before after (Err (work.Unread name)) = (text : TextValue) × (second_text request ≡ Some text) × (string_bytes name ≡ text.name) × HasFailed text.name text.most before after × StopsUndecided request I (before.held text.name) before after
 Works request I before after (Err (work.Rejected line status)) = Refuses request I before after line status

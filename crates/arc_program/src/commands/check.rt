@@ -39,6 +39,7 @@ fn told(alloc: Global, certificate: &str, verdict: Verdict) -> Result<Report, Wo
         Verdict::Shown(claim) => Ok(Report {
             text: Text::new(check_text(alloc, &claim)?),
             status: Status::Done,
+            made: None,
             certificate: None,
         }),
         Verdict::Faulty { line, cause } => {

@@ -35,6 +35,7 @@ fn graph_report(alloc: Global, instance: &Instance, compiled: &Compiled) -> Resu
     requires small { IsSmall instance.now }
     ensures reported { IfOk result (λ report. IsReported report.status) }
     ensures text { IfOk result (λ report. IsGraphReport instance.now report.status report.text) }
+    ensures unmade { IfOk result (λ report. report.made ≡ None) }
     ensures alone { IfOk result (λ report. report.certificate ≡ None) }
 {
     let levels = level_sizes(alloc, instance)?;
@@ -42,6 +43,7 @@ fn graph_report(alloc: Global, instance: &Instance, compiled: &Compiled) -> Resu
     Ok(Report {
         text,
         status: Status::Done,
+        made: None,
         certificate: None,
     })
 }
@@ -56,6 +58,7 @@ pub fn report<R: Threads + Sync>(
     requires { IsCount workers }
     ensures reported { IfOk result (λ report. IsReported report.status) }
     ensures text { IfOk result (λ report. IsGraphReport instance.now report.status report.text) }
+    ensures unmade { IfOk result (λ report. report.made ≡ None) }
     ensures alone { IfOk result (λ report. report.certificate ≡ None) }
     ensures large { IfErr result (λ fault. (t : ℕ) → fault ≡ CompileFault.TooManyArcs t → IsTooLarge instance.now t) }
 {

@@ -27,6 +27,7 @@ fn model_report(alloc: Global, instance: &Instance, compiled: &Compiled) -> Resu
     requires small { IsSmall instance.now }
     ensures reported { IfOk result (λ report. IsReported report.status) }
     ensures text { IfOk result (λ report. IsExport instance.now report.status report.text) }
+    ensures unmade { IfOk result (λ report. report.made ≡ None) }
     ensures alone { IfOk result (λ report. report.certificate ≡ None) }
 {
     instance.known();
@@ -40,6 +41,7 @@ fn model_report(alloc: Global, instance: &Instance, compiled: &Compiled) -> Resu
     Ok(Report {
         text,
         status: Status::Done,
+        made: None,
         certificate: None,
     })
 }
@@ -52,6 +54,7 @@ pub fn report<R: Threads + Sync>(
 ) -> Result<Report, CompileFault>
     ensures reported { IfOk result (λ report. IsReported report.status) }
     ensures text { IfOk result (λ report. IsExport instance.now report.status report.text) }
+    ensures unmade { IfOk result (λ report. report.made ≡ None) }
     ensures alone { IfOk result (λ report. report.certificate ≡ None) }
     ensures large { IfErr result (λ fault. (t : ℕ) → fault ≡ CompileFault.TooManyArcs t → IsTooLarge instance.now t) }
 {

@@ -113,6 +113,7 @@ fn report_on(
     Ok(Report {
         text: Text::new(text),
         status: Status::Done,
+        made: None,
         certificate: None,
     })
 }

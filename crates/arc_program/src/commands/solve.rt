@@ -1,117 +1,136 @@
-//! The command `solve`: a packing by first fit, and the material bound.
+//! The command `solve`: what a search finds out of an instance, and its certificate.
 
-ghost use Rattle.std.specs.Prelude.{◌≡◌, ◌≤◌, ◌↔◌, None, IfOk, IfSome, IsSome};
-ghost use Rattle.packing_laws.specs.Packings.{cost_of, IsJoined};
-ghost use Rattle.packing_laws.specs.Printed.{bins_of, IsTidy, IsWrittenPacking};
-ghost use Rattle.packing_laws.specs.Floors.{HasSingle};
+ghost use Rattle.std.specs.Prelude.{◌≡◌, ◌≤◌, ℕ, Some, IfOk, IfErr};
+ghost use Rattle.arc_num.specs.declared.TheConstants.{MAX_SPLITS};
+ghost use Rattle.command_words.specs.Requests.{IsCount};
+ghost use Rattle.flow_graph.specs.Faithful.{IsFaithful};
+ghost use Rattle.arc_compile.specs.Compiled.{AreCompiled};
+ghost use Rattle.arc_compile.specs.Graphs.{IsSmall, IsTooLarge};
+ghost use Rattle.arc_program.specs.Reports.{certificate_in};
 ghost use Rattle.arc_program.specs.Statuses.{IsReported};
-ghost use Rattle.arc_program.specs.commands.Solve.{IsAnswer, IsFoundPacking, IsSolved, answer_status};
+ghost use Rattle.arc_program.specs.commands.{IsTextIf};
+ghost use Rattle.arc_program.specs.commands.Solve.{IsFoundOut, IsSolved, outcome_status};
 
-use crate::answers::Answer;
 use crate::commands::Report;
 use crate::loading::Text;
-use crate::reports::solve_text;
+use crate::outcomes::{into_certificate, solve_text};
 use crate::status::Status;
+use arc_compile::{CompileFault, Compiled, compile};
 use arc_num::Memory;
-use first_fit::first_fit;
-use packing_laws::{
-    Instance, Packing, cost, homeless_item, join_bins, material_bound, material_is_floor,
-    no_place_no_packing, packings_fit, tidy,
-};
+use branch_search::{Outcome, search};
+use cert_laws::certified_is_so;
+use cert_text::{Certificate, write_certificate};
+use packing_laws::Instance;
 use std::alloc::Global;
+use std::thread::Threads;
 
-impl Answer {
-    /// The status of a run that prints this answer.
-    pub fn status(&self) -> Status
-        ensures value { result ≡ answer_status self.now }
-        ensures reported { IsReported result }
-    {
-        match self {
-            Answer::Optimal { .. } => Status::Done,
-            Answer::Bracket { .. } => Status::Bracketed,
-            Answer::Unpacked { .. } => Status::Bracketed,
-            Answer::Infeasible => Status::Done,
-        }
-    }
-}
-
-/// The printed form of a packing, with bins joined as long as two of them fit together.
-fn joined(instance: &Instance, mut packing: Packing) -> Result<Packing, Memory>
-    requires { IsWrittenPacking instance.now packing }
-    ensures tidy { IfOk result IsTidy }
-    ensures packing { IfOk result (IsWrittenPacking instance.now) }
-    ensures joined { IfOk result (λ joined. IsJoined instance.now (bins_of joined)) }
-    ensures cost { IfOk result (λ joined. cost_of instance.now (bins_of joined) ≤ cost_of instance.now (bins_of packing)) }
+/// What a search with so many splits finds out over the graph of an instance that is compiled.
+pub fn find_out(
+    alloc: Global,
+    instance: &Instance,
+    compiled: &Compiled,
+    nodes: u32,
+) -> Result<Outcome, Memory>
+    requires compiled { AreCompiled instance.now compiled.now.graph compiled.now.sizes }
+    requires faithful { IsFaithful instance.now compiled.now.graph }
+    requires small { IsSmall instance.now }
+    requires nodes { nodes ≤ MAX_SPLITS }
+    ensures { IfOk result (IsFoundOut instance.now nodes compiled.now.graph compiled.now.sizes) }
 {
     instance.known();
-    packings_fit();
-    tidy(&mut packing)?;
-    join_bins(instance, &mut packing)?;
-    Ok(packing)
+    compiled.graph.known();
+    certified_is_so();
+    search(alloc, instance, &compiled.graph, nodes)
 }
 
-/// A first packing in the printed form, no two bins of which can be joined, where the single cost exists.
-fn found_packing(alloc: Global, instance: &Instance) -> Result<Option<Packing>, Memory>
-    ensures exists { IfOk result (λ found. IsSome found ↔ HasSingle instance.now) }
-    ensures packing { IfOk result (λ found. IfSome found (λ packing. IsFoundPacking instance.now (cost_of instance.now (bins_of packing)) packing)) }
+/// The status of a run that prints an outcome.
+fn status_of(outcome: &Outcome) -> Status
+    ensures value { result ≡ outcome_status outcome.now }
+    ensures reported { IsReported result }
 {
-    match first_fit(alloc, instance) {
-        Ok(Some(packing)) => Ok(Some(joined(instance, packing)?)),
-        Ok(None) => Ok(None),
-        Err(memory) => Err(memory),
+    match outcome {
+        Outcome::Optimal { .. } => Status::Done,
+        Outcome::Infeasible { .. } => Status::Done,
+        Outcome::Bracket { .. } => Status::Bracketed,
     }
 }
 
-/// The answer with a packing.
-fn packed_answer(instance: &Instance, packing: Packing) -> Answer
-    requires { IsFoundPacking instance.now (cost_of instance.now (bins_of packing)) packing }
-    ensures { IsAnswer instance.now result }
+/// The text of a certificate, where it is to be written.
+fn text_if(alloc: Global, certificate: &Certificate, written: bool) -> Result<Option<Text>, Memory>
+    ensures { IfOk result (IsTextIf written (Some certificate.now)) }
 {
-    material_is_floor();
-    let lower = material_bound(instance);
-    let cost = cost(instance, &packing);
-    if cost == lower {
-        Answer::Optimal { cost, packing }
+    if written {
+        Ok(Some(Text::new(write_certificate(alloc, certificate)?)))
     } else {
-        Answer::Bracket {
-            lower,
-            cost,
-            packing,
-        }
+        Ok(None)
     }
 }
 
-/// The answer for an instance.
-fn answer_of(alloc: Global, instance: &Instance) -> Result<Answer, Memory>
-    ensures { IfOk result (IsAnswer instance.now) }
-{
-    if homeless_item(instance).is_some() {
-        instance.known();
-        no_place_no_packing();
-        return Ok(Answer::Infeasible);
-    }
-    match found_packing(alloc, instance)? {
-        Some(packing) => Ok(packed_answer(instance, packing)),
-        None => {
-            material_is_floor();
-            let lower = material_bound(instance);
-            Ok(Answer::Unpacked { lower })
-        }
-    }
-}
-
-/// The report of `solve`.
-pub fn report(alloc: Global, instance: &Instance) -> Result<Report, Memory>
+/// The report with this text on an outcome, with the text of its certificate where that is to be written.
+pub fn report_on(
+    alloc: Global,
+    text: Vec<u8>,
+    outcome: Outcome,
+    written: bool,
+) -> Result<Report, Memory>
+    ensures text { IfOk result (λ report. report.text ≡ text.items) }
+    ensures status { IfOk result (λ report. report.status ≡ outcome_status outcome) }
     ensures reported { IfOk result (λ report. IsReported report.status) }
-    ensures text { IfOk result (λ report. IsSolved instance.now report.status report.text) }
-    ensures alone { IfOk result (λ report. report.certificate ≡ None) }
+    ensures made { IfOk result (λ report. report.made ≡ Some (certificate_in outcome)) }
+    ensures certificate { IfOk result (λ report. IsTextIf written (Some (certificate_in outcome)) report.certificate) }
 {
-    let answer = answer_of(alloc, instance)?;
-    let status = answer.status();
-    let text = Text::new(solve_text(alloc, &answer)?);
+    let status = status_of(&outcome);
+    let made = into_certificate(outcome);
+    let certificate = text_if(alloc, &made, written)?;
     Ok(Report {
-        text,
+        text: Text::new(text),
         status,
-        certificate: None,
+        made: Some(made),
+        certificate,
     })
+}
+
+/// The report on an instance that is compiled.
+fn solved(
+    alloc: Global,
+    instance: &Instance,
+    compiled: &Compiled,
+    nodes: u32,
+    written: bool,
+) -> Result<Report, Memory>
+    requires compiled { AreCompiled instance.now compiled.now.graph compiled.now.sizes }
+    requires faithful { IsFaithful instance.now compiled.now.graph }
+    requires small { IsSmall instance.now }
+    requires nodes { nodes ≤ MAX_SPLITS }
+    ensures reported { IfOk result (λ report. IsReported report.status) }
+    ensures text { IfOk result (λ report. IsSolved instance.now nodes report.status report.text report.made) }
+    ensures certificate { IfOk result (λ report. IsTextIf written report.made report.certificate) }
+{
+    let outcome = find_out(alloc, instance, compiled, nodes)?;
+    let text = solve_text(alloc, instance, &outcome)?;
+    report_on(alloc, text, outcome, written)
+}
+
+/// The report of `solve`. So many splits may be made, and so many threads may work at once while the instance is compiled; the
+/// certificate is to be written or not.
+pub fn report<R: Threads + Sync>(
+    rt: &R,
+    alloc: Global,
+    instance: &Instance,
+    nodes: u32,
+    written: bool,
+    workers: u32,
+) -> Result<Report, CompileFault>
+    requires workers { IsCount workers }
+    requires nodes { nodes ≤ MAX_SPLITS }
+    ensures reported { IfOk result (λ report. IsReported report.status) }
+    ensures text { IfOk result (λ report. IsSolved instance.now nodes report.status report.text report.made) }
+    ensures certificate { IfOk result (λ report. IsTextIf written report.made report.certificate) }
+    ensures large { IfErr result (λ fault. (t : ℕ) → fault ≡ CompileFault.TooManyArcs t → IsTooLarge instance.now t) }
+{
+    let compiled = compile(rt, alloc, instance, workers)?;
+    match solved(alloc, instance, &compiled, nodes, written) {
+        Ok(report) => Ok(report),
+        Err(Memory) => Err(CompileFault::Memory),
+    }
 }

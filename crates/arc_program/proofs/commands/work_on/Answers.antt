@@ -14,6 +14,14 @@ pub returns-in_err-report-in-Export-clause-works : goal.returns-in_err-report-in
 returns-in_err-report-in-Export-clause-works g c =
     works_not (request_of c.args.command.now) c.args.instance.now _ c.in_err-report-in-Export.field-0.0 c.from_residual-in_err-report-in-Export.result (subst (λ (command : Command). MakesGraphs (request_of command)) (sym c.in-Export.is) refl) c.from_residual-in_err-report-in-Export.ensures.1 c.in_err-report-in-Export.ensures.large
 
+pub returns-in_err-report-in-Solve-clause-works : goal.returns-in_err-report-in-Solve-clause-works
+returns-in_err-report-in-Solve-clause-works g c =
+    works_not (request_of c.args.command.now) c.args.instance.now _ c.in_err-report-in-Solve.field-0.0 c.from_residual-in_err-report-in-Solve.result (subst (λ (command : Command). MakesGraphs (request_of command)) (sym c.in-Solve.is) refl) c.from_residual-in_err-report-in-Solve.ensures.1 c.in_err-report-in-Solve.ensures.large
+
+pub returns-in_err-report-in-Make-clause-works : goal.returns-in_err-report-in-Make-clause-works
+returns-in_err-report-in-Make-clause-works g c =
+    works_not (request_of c.args.command.now) c.args.instance.now _ c.in_err-report-in-Make.field-0.0 c.from_residual-in_err-report-in-Make.result (subst (λ (command : Command). MakesGraphs (request_of command)) (sym c.in-Make.is) refl) c.from_residual-in_err-report-in-Make.ensures.1 c.in_err-report-in-Make.ensures.large
+
 pub returns-in-Extract-clause-works : goal.returns-in-Extract-clause-works
 returns-in-Extract-clause-works g c =
     let before : ShelfSeen = shelf_seen g.H.Shelf c.args.shelf.now in
