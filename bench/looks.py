@@ -39,18 +39,39 @@ def homeless(instance):
     return any(demand and not any(fits(form, t[0]) for form in forms for t in instance.types) for demand, forms in instance.items)
 
 
-def look_at_solve(instance, status, lines):
-    first = lines[0].split()
+def look_at_solve(instance, status, lines, nodes):
+    """The report of a search with so many splits at most: how many it made, and how many of these are plain."""
+    first, last = lines[0].split(), re.fullmatch(r"splits (0|[1-9]\d*) plain (0|[1-9]\d*)", lines[-1])
+    expect(len(lines) > 1 and last, "no line of splits: " + lines[-1])
+    splits, plain = int(last[1]), int(last[2])
+    expect(plain <= splits <= nodes, "more splits than are granted, or than there are: " + lines[-1])
+    expect((first == ["infeasible"]) >= homeless(instance), "a packing where an item fits nowhere")
     if first == ["infeasible"]:
-        expect(status == 0 and len(lines) == 1 and homeless(instance), "infeasible without reason")
+        limited = any(limit is not None for _, _, limit in instance.types)
+        expect(status == 0 and len(lines) == 2 and (limited or homeless(instance)), "infeasible without reason")
     elif first[0] == "optimal":
-        expect(status == 0 and add_up(instance, lines[1:]) == int(first[1]), "the cost is not the printed one")
+        expect(len(first) == 2 and status == 0 and add_up(instance, lines[1:-1]) == int(first[1]), "the cost is not the printed one")
     else:
         expect(first[0] == "bracket" and len(first) == 3 and status == 1, "no first line: " + lines[0])
+        expect(splits == nodes, "a bracket before all splits: " + lines[-1])
         if first[2] == "none":
-            expect(len(lines) == 1, "bins below none")
+            expect(len(lines) == 2, "bins below none")
         else:
-            expect(int(first[1]) < int(first[2]) == add_up(instance, lines[1:]), "the cost is not the printed one")
+            expect(int(first[1]) < int(first[2]) == add_up(instance, lines[1:-1]), "the cost is not the printed one")
+    return splits, plain
+
+
+def look_at_shown(report, certificate):
+    """Whether a certificate claims what the first line of a report says, with as many splits as its last line does."""
+    answer, lines = report[0].split(), certificate.decode().split("\n")
+    if answer == ["infeasible"]:
+        claim = "claim empty"
+    else:
+        claim = "claim bound %s goal %d" % (answer[1], int(answer[1]) + (answer[0] == "bracket"))
+    expect(lines[1] == claim, "%s claims: %s" % (report[0], lines[1]))
+    words = [line.split(" ")[0] for line in lines]
+    counted = "splits %d plain %d" % (words.count("split") + words.count("need"), words.count("split"))
+    expect(report[-1] == counted, "the certificate has " + counted)
 
 
 def look_at_compile(instance, status, lines):
@@ -107,7 +128,7 @@ def look_at_export(instance, status, lines):
         expect(bounds[column][1] == min(instance.units, instance.units if limit is None else limit), "another bound: " + column)
 
 
-LOOKS = {"solve": look_at_solve, "compile": look_at_compile, "export": look_at_export}
+LOOKS = {"compile": look_at_compile, "export": look_at_export}
 
 
 def values_of(text, columns):

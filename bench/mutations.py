@@ -1,6 +1,8 @@
-"""Small lists and certificates, and what is changed in them, for bench/fuzz."""
+"""Small lists, solutions and certificates, what is changed in them, and generated lists, for bench/fuzz."""
 import os
 import re
+
+from layouts import Instance, Refused
 
 HOME = os.path.dirname(os.path.dirname(os.path.abspath(__file__)))
 
@@ -50,6 +52,10 @@ def mutated(chance, text, others):
         joined = joined[:place] + bytes([chance.randrange(256)]) + joined[place + 1:]
     return joined
 
+
+SOLUTIONS = [b"Z1 2\nF2 2.0\nF5 2\n", b"Z1 3\nF2 2\nF3 1\nF5 2\n", b"# none\n\nZ1\t2 \r\nF2 2\nF5 2", b"Z1 4\nF2 4\nF5 4", b"Z1 2"]
+PIECES = [b"Z1", b"F1", b"F2", b"F3", b"F4", b"F5", b"F6", b"Z01", b"0", b"1", b"2", b"2.0", b"2.", b"3.000", b"1.5", b"-0", b"-1", b"+1", b"4611686018427387904",
+          b"4611686018427387905", b"#", b"\r", b"\n", b"\r\n", b"\n\n", b" ", b"\t"]
 
 BOUND_SIX = b"1 1 2 3 -1 1 1 3 1\n"
 CERTIFICATES = [
@@ -104,3 +110,28 @@ def changed(chance, certificate):
         place = chance.randrange(len(joined))
         joined = joined[:place] + chance.choice([b"", bytes([chance.randrange(256)])]) + joined[place + 1:]
     return joined
+
+
+def as_mvp(text, mvp):
+    """The text in the layout with types; a text that is none stays as it is."""
+    tokens = text.split()
+    try:
+        instance = Instance(text, mvp)
+    except Refused:
+        return text
+    if mvp:
+        return text
+    caps = tokens[tokens.index(b"caps"):] if b"caps" in tokens else []
+    head = [instance.dims, 1] + instance.types[0][0] + [1, -1, len(instance.items)]
+    items = [number for demand, forms in instance.items for number in [1, demand] + forms[0]]
+    return b" ".join([b"%d" % number for number in head + items] + caps) + b"\n"
+
+
+def generated(seed, size):
+    """The text of a generated list, its units, and what they weigh."""
+    state, items = seed, []
+    for _ in range(size):
+        state = (6364136223846793005 * state + 1442695040888963407) % (1 << 64)
+        items.append((500 + (state >> 33) % 4501, 1 + (state >> 33) // 4501 % 40))
+    text = "1 10000 %d " % size + " ".join("%d %d" % item for item in items) + "\n"
+    return text.encode(), sum(demand for _, demand in items), sum(weight * demand for weight, demand in items)
