@@ -18,14 +18,14 @@ use Rattle.flow_model.specs.Tallies.{TallyValue, IsTallyOf}
 use Rattle.flow_model.specs.inner.Sums.{IsFilled}
 use Rattle.flow_model.proofs.RowLists.{map-map, nodes_from-append, nodes_from_more}
 
-All_left : {X : Type 0} (P : X → Type 0) (xs ys : List X) → All P (xs ++ ys) → All P xs
+pub All_left : {X : Type 0} (P : X → Type 0) (xs ys : List X) → All P (xs ++ ys) → All P xs
 All_left P xs ys all k d within = subst P (get_or_append_left xs ys d k within) (all k d (let long = length-append xs ys in omega (arith, long, within)))
 
-All_right : {X : Type 0} (P : X → Type 0) (xs ys : List X) → All P (xs ++ ys) → All P ys
+pub All_right : {X : Type 0} (P : X → Type 0) (xs ys : List X) → All P (xs ++ ys) → All P ys
 All_right P xs ys all k d within = subst P (get_or-append-add xs ys k d) (all (length xs + k) d (let long = length-append xs ys in omega (arith, long, within)))
 
 -- the numbers up to n are those up to a smaller one, the next, and others
-up_to_split : (n v : ℕ) → v < n → (rest : List ℕ) × (up_to n ≡ up_to v ++ suc v ∷ rest)
+pub up_to_split : (n v : ℕ) → v < n → (rest : List ℕ) × (up_to n ≡ up_to v ++ suc v ∷ rest)
 up_to_split zero v within = absurd (omega (arith, within))
 up_to_split (suc n) v within = ⊎_elim
     (λ same. ([], λ k. up_to (sym same k) ++ suc (sym same k) ∷ []))
@@ -66,7 +66,7 @@ module _ (P : FlowRow → Type 0) where
   pub broken_first : (ys zs : List FlowRow) (row : FlowRow) → FirstBroken P ys (Some row) → FirstBroken P (ys ++ zs) (Some row)
   broken_first ys zs row broken = broken_within [] ys zs row (All-nil P) broken
 
-abbrev node_row : ℕ × ℕ → FlowRow
+abbrev pub node_row : ℕ × ℕ → FlowRow
 node_row node = Node node.0 node.1
 
 -- the rows of the nodes of one more type
@@ -74,7 +74,7 @@ pub node_rows_step : (g : List TypeValue) (t : ℕ) → t < length g → map nod
 node_rows_step g t within = ap (map node_row) (nodes_from_more g t within) ∙ map-append node_row (nodes_from 1 (take t g)) (map (λ v. (t + 1, v)) (up_to (flow_type g (t + 1)).nodes)) ∙ ap (λ zs. map node_row (nodes_from 1 (take t g)) ++ zs) (map-map node_row (λ v. (t + 1, v)) (up_to (flow_type g (t + 1)).nodes))
 
 -- the rows of the nodes of all types, with one type and the types after it apart
-node_rows_split : (g : List TypeValue) (t : ℕ) → t < length g → (rest : List FlowRow) × (map node_row (all_nodes g) ≡ map node_row (nodes_from 1 (take t g)) ++ (map (λ v. Node (t + 1) v) (up_to (flow_type g (t + 1)).nodes) ++ rest))
+pub node_rows_split : (g : List TypeValue) (t : ℕ) → t < length g → (rest : List FlowRow) × (map node_row (all_nodes g) ≡ map node_row (nodes_from 1 (take t g)) ++ (map (λ v. Node (t + 1) v) (up_to (flow_type g (t + 1)).nodes) ++ rest))
 node_rows_split g t within =
     let front : List FlowRow = map node_row (nodes_from 1 (take t g)) in
     let own : List FlowRow = map (λ v. Node (t + 1) v) (up_to (flow_type g (t + 1)).nodes) in

@@ -64,14 +64,14 @@ weigh_counts f L (kind ∷ kinds) n =
     let both = sum_by-add (λ l. cond (l == n) (f kind) 0) (at f kinds (n + 1)) L in
     omega (arith, rest, one, both)
 
-at_before : (f : ArcKind → ℕ) (kinds : List ArcKind) (n l : ℕ) → l < n → at f kinds n l ≡ 0
+pub at_before : (f : ArcKind → ℕ) (kinds : List ArcKind) (n l : ℕ) → l < n → at f kinds n l ≡ 0
 at_before f [] n l before = refl
 at_before f (kind ∷ kinds) n l before =
     let rest = at_before f kinds (n + 1) l (omega (arith, before)) in
     let none : cond {A = ℕ} (l == n) (f kind) 0 ≡ 0 = cond-false (l == n) (f kind) 0 (ne_eqb l n (λ e. omega (arith, e, before))) in
     omega (arith, rest, none)
 
-at_place : (f : ArcKind → ℕ) (kinds : List ArcKind) (n j : ℕ) (kind : ArcKind) → slice_get kinds j ≡ Some kind → at f kinds n (n + j) ≡ f kind
+pub at_place : (f : ArcKind → ℕ) (kinds : List ArcKind) (n j : ℕ) (kind : ArcKind) → slice_get kinds j ≡ Some kind → at f kinds n (n + j) ≡ f kind
 at_place f [] n j kind h = cc
 at_place f (k ∷ kinds) n zero kind h =
     let e : n + 0 ≡ n = omega arith in

@@ -33,12 +33,12 @@ use Rattle.flow_model.proofs.NodePlaces.{place_fits}
 use Rattle.flow_model.proofs.Solutions.{row_node, row_item, row_cases, rows_long, source, low_node, high_node}
 use Rattle.flow_model.proofs.Names.{objective_named, item_named, arc_named, node_named, node_names, item_names, arc_names, node_not_item, node_not_objective, item_not_objective}
 
-get_or-map : {X Y : Type 0} (f : X → Y) (xs : List X) (i : ℕ) (d : X) → get_or (map f xs) i (f d) ≡ f (get_or xs i d)
+pub get_or-map : {X Y : Type 0} (f : X → Y) (xs : List X) (i : ℕ) (d : X) → get_or (map f xs) i (f d) ≡ f (get_or xs i d)
 get_or-map f [] i d = refl
 get_or-map f (x ∷ xs) zero d = refl
 get_or-map f (x ∷ xs) (suc i) d = get_or-map f xs i d
 
-units_few : (I : InstanceValue) → IsInstance I → units_of I ≤ MAX_UNITS
+pub units_few : (I : InstanceValue) → IsInstance I → units_of I ≤ MAX_UNITS
 units_few I is =
     let most : units_of I ≤ length I.items * MAX_DEMAND = sum_by-le (λ (x : Item). x.demand) MAX_DEMAND I.items (λ k d within. (is.items k d within).demand) in
     let few : length I.items ≤ MAX_ITEMS = is.item_count in
@@ -46,16 +46,16 @@ units_few I is =
     let limit : MAX_ITEMS * MAX_DEMAND ≤ MAX_UNITS = omega arith in
     omega (arith, most, bound, limit)
 
-limited_few : (n : ℕ) (limit : Option ℕ) → limited n limit ≤ n
+pub limited_few : (n : ℕ) (limit : Option ℕ) → limited n limit ≤ n
 limited_few n None = omega arith
 limited_few n (Some q) = omega arith
 
-upper_few : (I : InstanceValue) → IsInstance I → (kind : ArcKind) → upper_of I kind ≤ 2 ^ 62
+pub upper_few : (I : InstanceValue) → IsInstance I → (kind : ArcKind) → upper_of I kind ≤ 2 ^ 62
 upper_few I is (Bin t) = let few = units_few I is in let part = limited_few (units_of I) (type_at I t).limit in omega (arith, few, part)
 upper_few I is (Loss t tail head) = let few = units_few I is in omega (arith, few)
 upper_few I is (Piece t tail head item form) = let few = units_few I is in omega (arith, few)
 
-type_cost : (I : InstanceValue) → IsInstance I → (t : ℕ) → cost_at I t ≤ 2 ^ 62
+pub type_cost : (I : InstanceValue) → IsInstance I → (t : ℕ) → cost_at I t ≤ 2 ^ 62
 type_cost I is t = ⊎_elim
     (λ none. rw (eq-eqb t 0 none) (omega arith))
     (λ some. rw (ne_eqb t 0 some) (⊎_elim
@@ -64,34 +64,34 @@ type_cost I is t = ⊎_elim
     (cases_lt (t - 1) (length I.types))))
     (cases_eq t 0)
 
-arc_cost_few : (I : InstanceValue) → IsInstance I → (kind : ArcKind) → arc_cost I kind ≤ 2 ^ 62
+pub arc_cost_few : (I : InstanceValue) → IsInstance I → (kind : ArcKind) → arc_cost I kind ≤ 2 ^ 62
 arc_cost_few I is (Bin t) = type_cost I is t
 arc_cost_few I is (Loss t tail head) = omega arith
 arc_cost_few I is (Piece t tail head item form) = omega arith
 
 -- entries that stand in order by row, in n rows
-record AreEntries (n : ℕ) (entries : List Entry) : Type 0 where
+pub record AreEntries (n : ℕ) (entries : List Entry) : Type 0 where
   each : All (IsEntry n) entries
   order : AllPairs (λ d e. d.row < e.row) entries
 
-no_entries : (n : ℕ) → AreEntries n []
+pub no_entries : (n : ℕ) → AreEntries n []
 no_entries n = record { each = All-nil (IsEntry n); order = λ i j d before within. absurd (omega (arith, before, within)) }
 
 -- one more entry in front
-entry_first : (n : ℕ) (e : Entry) (entries : List Entry) → IsEntry n e → All (λ f. e.row < f.row) entries → AreEntries n entries → AreEntries n (e ∷ entries)
+pub entry_first : (n : ℕ) (e : Entry) (entries : List Entry) → IsEntry n e → All (λ f. e.row < f.row) entries → AreEntries n entries → AreEntries n (e ∷ entries)
 entry_first n e entries is before rest = record {
   each = All-cons (IsEntry n) e entries is rest.each;
   order = AllPairs-cons (λ (d e : Entry). d.row < e.row) e entries before rest.order;
 }
 
-unit_entry : (n r : ℕ) → IsAmong r n → IsEntry n (record { row = r; value = pos 1 })
+pub unit_entry : (n r : ℕ) → IsAmong r n → IsEntry n (record { row = r; value = pos 1 })
 unit_entry n r among = record { row = among; filled = λ h. omega (arith, ints, h); value = omega arith }
 
-less_entry : (n r : ℕ) → IsAmong r n → IsEntry n (record { row = r; value = negsuc 0 })
+pub less_entry : (n r : ℕ) → IsAmong r n → IsEntry n (record { row = r; value = negsuc 0 })
 less_entry n r among = record { row = among; filled = λ h. omega (arith, ints, h); value = omega arith }
 
 -- the entries of a unit that leaves one row and enters another, with others in later rows
-moves_with : (n p q : ℕ) (rest : List Entry) → IsAmong p n → IsAmong q n → All (λ f. p < f.row) rest → All (λ f. q < f.row) rest → AreEntries n rest → AreEntries n (moves p q ++ rest)
+pub moves_with : (n p q : ℕ) (rest : List Entry) → IsAmong p n → IsAmong q n → All (λ f. p < f.row) rest → All (λ f. q < f.row) rest → AreEntries n rest → AreEntries n (moves p q ++ rest)
 moves_with n p q rest low high after_p after_q are = ⊎_elim
     (λ same. subst (λ (entries : List Entry). AreEntries n (entries ++ rest)) (sym (cond-true (p == q) [] (cond (ltb p q) (leaves ∷ enters ∷ []) (enters ∷ leaves ∷ [])) (eq-eqb p q same))) are)
     (λ apart. subst (λ (entries : List Entry). AreEntries n (entries ++ rest)) (sym (cond-false (p == q) [] (cond (ltb p q) (leaves ∷ enters ∷ []) (enters ∷ leaves ∷ [])) (ne_eqb p q apart))) (⊎_elim

@@ -19,10 +19,10 @@ use Rattle.flow_model.specs.inner.Sums.{IsPlaced, Holds, IsFilled, tail_in, head
 use Rattle.flow_model.proofs.ArcsKnown.{known_graph, arcs_known}
 
 -- how many nodes the first types have
-abbrev first_nodes : List TypeValue → ℕ → ℕ
+abbrev pub first_nodes : List TypeValue → ℕ → ℕ
 first_nodes g k = sum_by (λ x. x.nodes) (take k g)
 
-more_types : (g : List TypeValue) (a b : ℕ) → a ≤ b → first_nodes g a ≤ first_nodes g b
+pub more_types : (g : List TypeValue) (a b : ℕ) → a ≤ b → first_nodes g a ≤ first_nodes g b
 more_types g a b low =
     let part = sum_by-take-le (λ (x : TypeValue). x.nodes) (take b g) a in
     let same : take a (take b g) ≡ take a g = take-take a b g low in
@@ -40,16 +40,16 @@ place_fits g t v among node =
     let part = sum_by-take-le (λ (x : TypeValue). x.nodes) g t in
     (omega (arith, node.0), omega (arith, node.1, last, part))
 
-places_rise : (g : List TypeValue) (s u t v : ℕ) → IsAmong s (length g) → u ≤ (flow_type g s).nodes → 1 ≤ v → s < t → node_place g s u < node_place g t v
+pub places_rise : (g : List TypeValue) (s u t v : ℕ) → IsAmong s (length g) → u ≤ (flow_type g s).nodes → 1 ≤ v → s < t → node_place g s u < node_place g t v
 places_rise g s u t v among node low before =
     let last = target_place g s among in
     let more = more_types g s (t - 1) (omega (arith, before)) in
     omega (arith, last, more, node, low)
 
-and_no_left : (a b : Bool) → a ≡ false → (a && b) ≡ false
+pub and_no_left : (a b : Bool) → a ≡ false → (a && b) ≡ false
 and_no_left a b h = rw h refl
 
-and_no_right : (a b : Bool) → b ≡ false → (a && b) ≡ false
+pub and_no_right : (a b : Bool) → b ≡ false → (a && b) ≡ false
 and_no_right true b h = h
 and_no_right false b h = refl
 
@@ -124,7 +124,7 @@ filled I g values tally instance is of room held =
           rw e at sum;
     }
 
-placed_between : (g : List TypeValue) (starts : List ℕ) (n : ℕ) → AreStarts g starts → n ≡ sum_by (λ x. x.nodes) g → (t tail head : ℕ) → IsBetween g t tail head → ((1 ≤ t) × (t < length starts)) × IsAmong (get_or starts (t - 1) 0 + tail) n × IsAmong (get_or starts (t - 1) 0 + head) n
+pub placed_between : (g : List TypeValue) (starts : List ℕ) (n : ℕ) → AreStarts g starts → n ≡ sum_by (λ x. x.nodes) g → (t tail head : ℕ) → IsBetween g t tail head → ((1 ≤ t) × (t < length starts)) × IsAmong (get_or starts (t - 1) 0 + tail) n × IsAmong (get_or starts (t - 1) 0 + head) n
 placed_between g starts n are whole t tail head own =
     let among = own.of_type in
     let size = are.size in
@@ -137,7 +137,7 @@ placed_between g starts n are whole t tail head own =
     ((among.0, omega (arith, size, among.1)), (omega (arith, one.0, begin), omega (arith, one.1, begin, whole)), (omega (arith, two.0, begin), omega (arith, two.1, begin, whole)))
 
 -- each arc has its places
-placed : (g : List TypeValue) (starts : List ℕ) (n : ℕ) → All (λ x. 1 ≤ x.nodes) g → AreStarts g starts → n ≡ sum_by (λ x. x.nodes) g → (kind : ArcKind) → IsArcOf MAX_ITEMS g kind → IsPlaced n starts kind
+pub placed : (g : List TypeValue) (starts : List ℕ) (n : ℕ) → All (λ x. 1 ≤ x.nodes) g → AreStarts g starts → n ≡ sum_by (λ x. x.nodes) g → (kind : ArcKind) → IsArcOf MAX_ITEMS g kind → IsPlaced n starts kind
 placed g starts n sources are whole (Bin t) among =
     let size = are.size in
     let low : 1 ≤ (flow_type g t).nodes = sources (t - 1) (record { nodes = 1; arcs = [] }) (omega (arith, among.0, among.1)) in

@@ -77,7 +77,7 @@ module _ (g : List TypeValue) where
       ((first_arc g b.0 ∷ numbers.0) ∷ rest.0, (own, rest.1))
 
 -- a sum with such a term
-sum_to-term : (j k n : ℕ) → 1 ≤ j → j ≤ n → k ≤ sum_to (λ i. cond (j == i) k 0) n
+pub sum_to-term : (j k n : ℕ) → 1 ≤ j → j ≤ n → k ≤ sum_to (λ i. cond (j == i) k 0) n
 sum_to-term j k zero low high = absurd (omega (arith, low, high))
 sum_to-term j k (suc n) low high = ⊎_elim
     (λ same. let last : cond {A = ℕ} (j == suc n) k 0 ≡ k = cond-true (j == suc n) k 0 (eq-eqb j (suc n) same) in omega (arith, last))
@@ -85,7 +85,7 @@ sum_to-term j k (suc n) low high = ⊎_elim
     (cases_eq j (suc n))
 
 -- the units of a content are those of its items
-units_by_item : (n : ℕ) (c : Content) → All (λ m. IsAmong m.item n) c → units_in c ≤ sum_to (λ i. count_of_item i c) n
+pub units_by_item : (n : ℕ) (c : Content) → All (λ m. IsAmong m.item n) c → units_in c ≤ sum_to (λ i. count_of_item i c) n
 units_by_item n [] among = omega arith
 units_by_item n (m ∷ c) among =
     let here : IsAmong m.item n = All-head (λ (x : Count). IsAmong x.item n) m c among in
@@ -98,14 +98,14 @@ units_by_item n (m ∷ c) among =
     let whole : units_in (m ∷ c) ≡ m.count + units_in c = sum_by-cons (λ (x : Count). x.count) m c in
     omega (arith, rest, first, both, parts, whole)
 
-all_exist : (I : InstanceValue) (P : Bins) → All (λ b. Fits I b.0 b.1) P → All (λ m. IsAmong m.item (length I.items)) (all_of P)
+pub all_exist : (I : InstanceValue) (P : Bins) → All (λ b. Fits I b.0 b.1) P → All (λ m. IsAmong m.item (length I.items)) (all_of P)
 all_exist I [] fits = All-nil (λ (m : Count). IsAmong m.item (length I.items))
 all_exist I (b ∷ P) fits =
     All-append (λ (m : Count). IsAmong m.item (length I.items)) b.1 (all_of P)
     (λ k d within. ((All-head (λ (c : ℕ × Content). Fits I c.0 c.1) b P fits).exists k d within).item)
     (all_exist I P (All-tail (λ (c : ℕ × Content). Fits I c.0 c.1) b P fits))
 
-filled_bins_few : (bins : Bins) → All (λ b. 0 < units_in b.1) bins → length bins ≤ sum_by (λ b. units_in b.1) bins
+pub filled_bins_few : (bins : Bins) → All (λ b. 0 < units_in b.1) bins → length bins ≤ sum_by (λ b. units_in b.1) bins
 filled_bins_few [] filled = omega arith
 filled_bins_few (b ∷ bins) filled =
     let first = All-head (λ (b : ℕ × Content). 0 < units_in b.1) b bins filled in
@@ -113,7 +113,7 @@ filled_bins_few (b ∷ bins) filled =
     rw (sum_by-cons (λ (b : ℕ × Content). units_in b.1) b bins) (omega (arith, first, rest))
 
 -- there are no more bins than units
-bins_few : (I : InstanceValue) (P : Bins) → IsPacking I P → All (λ b. 0 < units_in b.1) P → length P ≤ units_of I
+pub bins_few : (I : InstanceValue) (P : Bins) → IsPacking I P → All (λ b. 0 < units_in b.1) P → length P ≤ units_of I
 bins_few I P is filled =
     let n : ℕ = length I.items in
     let demand : ℕ → ℕ = λ i. (item_at I i).demand in
@@ -126,22 +126,22 @@ bins_few I P is filled =
     let whole : sum_by (λ (x : Item). x.demand) (take n I.items) ≡ units_of I = ap (sum_by (λ (x : Item). x.demand)) (take_all n I.items (omega arith)) in
     omega (arith, few, joined, by_item, met, asked, whole)
 
-within_one : (I : InstanceValue) (P : Bins) → IsPacking I P → All (λ b. IsWithin I b.1) P
+pub within_one : (I : InstanceValue) (P : Bins) → IsPacking I P → All (λ b. IsWithin I b.1) P
 within_one I P is k d within i among =
     let part = get_or-le-sum_by (λ (b : ℕ × Content). count_of_item i b.1) P k d within in
     let joined : count_of_item i (all_of P) ≡ sum_by (λ b. count_of_item i b.1) P = sum_by-flat_map (λ (m : Count). cond (m.item == i) m.count 0) (λ (b : ℕ × Content). b.1) P in
     let whole = is.demands i among in
     omega (arith, part, joined, whole)
 
-ones : (bins : Bins) → sum_by (λ b. 1) bins ≡ length bins
+pub ones : (bins : Bins) → sum_by (λ b. 1) bins ≡ length bins
 ones [] = refl
 ones (b ∷ bins) = let rest = ones bins in rw (sum_by-cons (λ (b : ℕ × Content). 1) b bins) (omega (arith, rest))
 
-limit_met : (n used : ℕ) (limit : Option ℕ) → used ≤ n → IfSome limit (λ q. used ≤ q) → used ≤ limited n limit
+pub limit_met : (n used : ℕ) (limit : Option ℕ) → used ≤ n → IfSome limit (λ q. used ≤ q) → used ≤ limited n limit
 limit_met n used None few met = few
 limit_met n used (Some q) few met = omega (arith, few, met)
 
-count_few : (bins : Bins) (t : ℕ) → used_of t bins ≤ length bins
+pub count_few : (bins : Bins) (t : ℕ) → used_of t bins ≤ length bins
 count_few bins t = count_by-le-length (λ (b : ℕ × Content). b.0 == t) bins
 
 module _ (I : InstanceValue) (g : List TypeValue) (bins : Bins) (graph : IsFlowGraph g) (is : IsFaithful I g) (packing : IsPacking I bins) (filled : All (λ b. 0 < units_in b.1) bins) where

@@ -7,10 +7,10 @@ use Rattle.flow_model.specs.declared.programs.Program.{Program}
 use Rattle.flow_model.specs.Models.{SolutionsAreFlows, program_of_model}
 use Rattle.flow_model.specs.Packed.{PackingsAreFlows, SolvesAsFlows, SolvesPackings}
 
-model_solves : SolutionsAreFlows → (I : InstanceValue) (g : List TypeValue) → IsInstance I → IsFlowGraph g → GraphOf I g → SolvesAsFlows (program_of_model I g) I g
+pub model_solves : SolutionsAreFlows → (I : InstanceValue) (g : List TypeValue) → IsInstance I → IsFlowGraph g → GraphOf I g → SolvesAsFlows (program_of_model I g) I g
 model_solves law I g instance graph of = record { solutions = λ values. law.solutions I g values instance graph of; objective = λ values. law.objective I g values }
 
-model_packs : SolutionsAreFlows → PackingsAreFlows → (I : InstanceValue) (g : List TypeValue) → IsInstance I → IsFlowGraph g → GraphOf I g → SolvesPackings (program_of_model I g) I g
+pub model_packs : SolutionsAreFlows → PackingsAreFlows → (I : InstanceValue) (g : List TypeValue) → IsInstance I → IsFlowGraph g → GraphOf I g → SolvesPackings (program_of_model I g) I g
 model_packs law packed I g instance graph of faithful bins packing filled =
     let found = packed I g bins instance graph faithful packing filled in
     record {

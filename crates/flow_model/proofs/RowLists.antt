@@ -27,7 +27,7 @@ nodes_from-append t (x ∷ xs) ys =
     let at : t + 1 + length xs ≡ t + length (x ∷ xs) = omega arith in
     ap (λ zs. map (λ v. (t, v)) (up_to x.nodes) ++ zs) (nodes_from-append (t + 1) xs ys ∙ ap (λ n. nodes_from (t + 1) xs ++ nodes_from n ys) at) ∙ sym (append_assoc (map (λ v. (t, v)) (up_to x.nodes)) (nodes_from (t + 1) xs) (nodes_from (t + length (x ∷ xs)) ys))
 
-none : TypeValue
+pub none : TypeValue
 none = record { nodes = 1; arcs = [] }
 
 pub nodes_from_more : (g : List TypeValue) (t : ℕ) → t < length g → nodes_from 1 (take (t + 1) g) ≡ nodes_from 1 (take t g) ++ map (λ v. (t + 1, v)) (up_to (flow_type g (t + 1)).nodes)
@@ -39,7 +39,7 @@ nodes_from_more g t within =
     let long : 1 + length (take t g) ≡ t + 1 = let front = length-take-le t g (omega (arith, within)) in omega (arith, front) in
     ap (nodes_from 1) (take_more g t none within) ∙ nodes_from-append 1 (take t g) (x ∷ []) ∙ ap (λ n. nodes_from 1 (take t g) ++ nodes_from n (x ∷ [])) long ∙ ap (λ zs. nodes_from 1 (take t g) ++ zs) (append-nil (map (λ v. (t + 1, v)) (up_to x.nodes))) ∙ ap (λ (y : TypeValue). nodes_from 1 (take t g) ++ map (λ v. (t + 1, v)) (up_to y.nodes)) (sym same)
 
-abbrev row_of_node : ℕ × ℕ → Row
+abbrev pub row_of_node : ℕ × ℕ → Row
 row_of_node node = node_row node.0 node.1
 
 pub node_rows_more : (g : List TypeValue) (t : ℕ) (rows new : List Row) → t < length g → rows ≡ map row_of_node (nodes_from 1 (take t g)) → new ≡ rows ++ map (node_row (t + 1)) (up_to (flow_type g (t + 1)).nodes) → new ≡ map row_of_node (nodes_from 1 (take (t + 1) g))

@@ -32,7 +32,7 @@ use Rattle.flow_model.proofs.BrokenRows.{bounded_at}
 use Rattle.flow_model.proofs.Ways.{one_if}
 
 -- the product of a difference
-scale : (a b x : ℕ) → (pos a -ℤ pos b) *ℤ pos x ≡ pos (a * x) -ℤ pos (b * x)
+pub scale : (a b x : ℕ) → (pos a -ℤ pos b) *ℤ pos x ≡ pos (a * x) -ℤ pos (b * x)
 scale a b x = ⊎_elim
     (λ less.
     let m : ℕ = b - a - 1 in
@@ -51,7 +51,7 @@ scale a b x = ⊎_elim
     (cases_lt a b)
 
 -- a sum over the columns of the arcs, where what is summed is a difference
-weigh_columns : (I : InstanceValue) (g : List TypeValue) (Q : ArcKind → Type 0) (f : Column → ℤ) (p q : ArcKind → ℕ) → ((n : ℕ) (kind : ArcKind) → Q kind → f (arc_column I g (n, kind)) ≡ pos (p kind) -ℤ pos (q kind)) → (n : ℕ) (kinds : List ArcKind) (values : List ℕ) → All Q kinds → weigh f (map (arc_column I g) (enumerate_from n kinds)) values ≡ pos (weigh_arcs p kinds values) -ℤ pos (weigh_arcs q kinds values)
+pub weigh_columns : (I : InstanceValue) (g : List TypeValue) (Q : ArcKind → Type 0) (f : Column → ℤ) (p q : ArcKind → ℕ) → ((n : ℕ) (kind : ArcKind) → Q kind → f (arc_column I g (n, kind)) ≡ pos (p kind) -ℤ pos (q kind)) → (n : ℕ) (kinds : List ArcKind) (values : List ℕ) → All Q kinds → weigh f (map (arc_column I g) (enumerate_from n kinds)) values ≡ pos (weigh_arcs p kinds values) -ℤ pos (weigh_arcs q kinds values)
 weigh_columns I g Q f p q each n [] values all = omega (arith, ints)
 weigh_columns I g Q f p q each n (kind ∷ kinds) [] all = omega (arith, ints)
 weigh_columns I g Q f p q each n (kind ∷ kinds) (x ∷ values) all =
@@ -59,23 +59,23 @@ weigh_columns I g Q f p q each n (kind ∷ kinds) (x ∷ values) all =
     let first : f (arc_column I g (n, kind)) *ℤ pos x ≡ pos (p kind * x) -ℤ pos (q kind * x) = ap (λ z. z *ℤ pos x) (each n kind (All-head Q kind kinds all)) ∙ scale (p kind) (q kind) x in
     omega (arith, ints, rest, first)
 
-weigh_none : (kinds : List ArcKind) (values : List ℕ) → weigh_arcs (λ kind. 0) kinds values ≡ 0
+pub weigh_none : (kinds : List ArcKind) (values : List ℕ) → weigh_arcs (λ kind. 0) kinds values ≡ 0
 weigh_none [] values = refl
 weigh_none (kind ∷ kinds) [] = refl
 weigh_none (kind ∷ kinds) (x ∷ values) = let rest = weigh_none kinds values in omega (arith, rest)
 
-objective_is : (I : InstanceValue) (g : List TypeValue) (values : List ℕ) → objective_of (program_of_model I g) values ≡ pos (flow_cost I g values)
+pub objective_is : (I : InstanceValue) (g : List TypeValue) (values : List ℕ) → objective_of (program_of_model I g) values ≡ pos (flow_cost I g values)
 objective_is I g values =
     let sum = weigh_columns I g (λ kind. Unit {0}) (λ c. c.cost) (arc_cost I) (λ kind. 0) (λ n kind any. omega (arith, ints)) 1 (numbered g) values (λ k d within. tt) in
     let none = weigh_none (numbered g) values in
     omega (arith, ints, sum, none)
 
-entry_append : (r : ℕ) (xs ys : List Entry) → entry_in r (xs ++ ys) ≡ entry_in r xs +ℤ entry_in r ys
+pub entry_append : (r : ℕ) (xs ys : List Entry) → entry_in r (xs ++ ys) ≡ entry_in r xs +ℤ entry_in r ys
 entry_append r [] ys = omega (arith, ints)
 entry_append r (e ∷ xs) ys = let rest = entry_append r xs ys in omega (arith, ints, rest)
 
 -- what a unit that leaves one row and enters another adds in a row
-entry_moves : (r p q : ℕ) → entry_in r (moves p q) ≡ pos (cond (q == r) 1 0) -ℤ pos (cond (p == r) 1 0)
+pub entry_moves : (r p q : ℕ) → entry_in r (moves p q) ≡ pos (cond (q == r) 1 0) -ℤ pos (cond (p == r) 1 0)
 entry_moves r p q = ⊎_elim
     (λ same.
     let none : moves p q ≡ [] = cond-true (p == q) [] (cond (ltb p q) (record { row = p; value = negsuc 0 } ∷ record { row = q; value = pos 1 } ∷ []) (record { row = q; value = pos 1 } ∷ record { row = p; value = negsuc 0 } ∷ [])) (eq-eqb p q same) in
@@ -99,21 +99,21 @@ entry_moves r p q = ⊎_elim
       less_or true = omega (arith, ints)
       less_or false = omega (arith, ints)
 
-shift_test : (a b c : ℕ) → (a + b == a + c) ≡ (b == c)
+pub shift_test : (a b c : ℕ) → (a + b == a + c) ≡ (b == c)
 shift_test a b c = ⊎_elim
     (λ same. eq-eqb (a + b) (a + c) (omega (arith, same)) ∙ sym (eq-eqb b c same))
     (λ other. ne_eqb (a + b) (a + c) (λ e. other (omega (arith, e))) ∙ sym (ne_eqb b c other))
     (cases_eq b c)
 
 -- the places of rows
-abbrev first_nodes : List TypeValue → ℕ → ℕ
+abbrev pub first_nodes : List TypeValue → ℕ → ℕ
 first_nodes g k = sum_by (λ x. x.nodes) (take k g)
 
-length_up_to : (n : ℕ) → length (up_to n) ≡ n
+pub length_up_to : (n : ℕ) → length (up_to n) ≡ n
 length_up_to zero = refl
 length_up_to (suc n) = let rest = length_up_to n in let long = length-append (up_to n) (suc n ∷ []) in omega (arith, rest, long)
 
-length_nodes : (t : ℕ) (g : List TypeValue) → length (nodes_from t g) ≡ sum_by (λ x. x.nodes) g
+pub length_nodes : (t : ℕ) (g : List TypeValue) → length (nodes_from t g) ≡ sum_by (λ x. x.nodes) g
 length_nodes t [] = refl
 length_nodes t (x ∷ g) =
     let rest = length_nodes (t + 1) g in
@@ -122,7 +122,7 @@ length_nodes t (x ∷ g) =
     let joined = length-append (map (λ v. (t, v)) (up_to x.nodes)) (nodes_from (t + 1) g) in
     rw (sum_by-cons (λ (y : TypeValue). y.nodes) x g) (omega (arith, rest, own, many, joined))
 
-up_to_at : (n v : ℕ) → IsAmong v n → slice_get (up_to n) (v - 1) ≡ Some v
+pub up_to_at : (n v : ℕ) → IsAmong v n → slice_get (up_to n) (v - 1) ≡ Some v
 up_to_at zero v among = absurd (omega (arith, among.0, among.1))
 up_to_at (suc n) v among = ⊎_elim
     (λ same.
@@ -131,7 +131,7 @@ up_to_at (suc n) v among = ⊎_elim
     (λ other. slice_get-append-left (up_to n) (suc n ∷ []) (v - 1) v (up_to_at n v (among.0, omega (arith, among.1, other))))
     (cases_eq v (suc n))
 
-node_at : (g : List TypeValue) (t v : ℕ) → IsAmong t (length g) → IsAmong v (flow_type g t).nodes → slice_get (all_nodes g) (node_place g t v - 1) ≡ Some (t, v)
+pub node_at : (g : List TypeValue) (t v : ℕ) → IsAmong t (length g) → IsAmong v (flow_type g t).nodes → slice_get (all_nodes g) (node_place g t v - 1) ≡ Some (t, v)
 node_at g t v among node =
     let e : t - 1 + 1 ≡ t = omega (arith, among.0) in
     let front : List (ℕ × ℕ) = nodes_from 1 (take (t - 1) g) in
@@ -145,7 +145,7 @@ node_at g t v among node =
     ap (λ xs. slice_get xs (node_place g t v - 1)) whole ∙ slice_get-append-left (front ++ own) after (node_place g t v - 1) (t, v) (ap (slice_get (front ++ own)) place ∙ slice_get-append-add front own (v - 1) ∙ here)
 
 -- each place up to the number of nodes of the first types is that of a node
-find_node : (g : List TypeValue) (n r : ℕ) → n ≤ length g → 1 ≤ r → r ≤ first_nodes g n → (t : ℕ) × (v : ℕ) × IsAmong t (length g) × IsAmong v (flow_type g t).nodes × (r ≡ node_place g t v)
+pub find_node : (g : List TypeValue) (n r : ℕ) → n ≤ length g → 1 ≤ r → r ≤ first_nodes g n → (t : ℕ) × (v : ℕ) × IsAmong t (length g) × IsAmong v (flow_type g t).nodes × (r ≡ node_place g t v)
 find_node g zero r within low high = absurd (omega (arith, low, high))
 find_node g (suc n) r within low high = ⊎_elim
     (λ before. find_node g n r (omega (arith, within)) low (omega (arith, before)))
@@ -253,10 +253,10 @@ module _ (I : InstanceValue) (g : List TypeValue) (n : ℕ) (sources : All (λ x
           as_pos false = refl
 
 -- the bounds of the columns of the arcs
-abbrev AreBounded : InstanceValue → List ArcKind → List ℕ → Type 0
+abbrev pub AreBounded : InstanceValue → List ArcKind → List ℕ → Type 0
 AreBounded I kinds values = (length values ≡ length kinds) × ((i : ℕ) (d : ArcKind) → i < length kinds → get_or values i 0 ≤ upper_of I (get_or kinds i d))
 
-bounds_to : (I : InstanceValue) (g : List TypeValue) (n : ℕ) (kinds : List ArcKind) (values : List ℕ) → AreWithin (map (arc_column I g) (enumerate_from n kinds)) values → AreBounded I kinds values
+pub bounds_to : (I : InstanceValue) (g : List TypeValue) (n : ℕ) (kinds : List ArcKind) (values : List ℕ) → AreWithin (map (arc_column I g) (enumerate_from n kinds)) values → AreBounded I kinds values
 bounds_to I g n [] [] h = (refl, λ i d within. absurd (omega (arith, within)))
 bounds_to I g n [] (x ∷ values) h = absurd h
 bounds_to I g n (kind ∷ kinds) [] h = absurd h
@@ -267,7 +267,7 @@ bounds_to I g n (kind ∷ kinds) (x ∷ values) h =
       each first rest zero d within = first
       each first rest (suc i) d within = rest i d (omega (arith, within))
 
-bounds_from : (I : InstanceValue) (g : List TypeValue) (n : ℕ) (kinds : List ArcKind) (values : List ℕ) → AreBounded I kinds values → AreWithin (map (arc_column I g) (enumerate_from n kinds)) values
+pub bounds_from : (I : InstanceValue) (g : List TypeValue) (n : ℕ) (kinds : List ArcKind) (values : List ℕ) → AreBounded I kinds values → AreWithin (map (arc_column I g) (enumerate_from n kinds)) values
 bounds_from I g n [] [] h = tt
 bounds_from I g n [] (x ∷ values) h = let size = h.0 in absurd (omega (arith, size))
 bounds_from I g n (kind ∷ kinds) [] h = let size = h.0 in absurd (omega (arith, size))

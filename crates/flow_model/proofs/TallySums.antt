@@ -33,7 +33,7 @@ raised_at sums p x j among = ⊎_elim
     rw none (omega (arith, there)))
     (cases_eq p (j + 1))
 
-raised_le : (sums : List ℕ) (p x j : ℕ) → IsAmong p (length sums) → get_or (raised sums p x) j 0 ≤ get_or sums j 0 + x
+pub raised_le : (sums : List ℕ) (p x j : ℕ) → IsAmong p (length sums) → get_or (raised sums p x) j 0 ≤ get_or sums j 0 + x
 raised_le sums p x j among =
     let at = raised_at sums p x j among in
     ⊎_elim
@@ -41,17 +41,17 @@ raised_le sums p x j among =
     (λ other. let none : cond {A = ℕ} (p == j + 1) 1 0 ≡ 0 = cond-false (p == j + 1) 1 0 (ne_eqb p (j + 1) other) in rw at (rw none (omega arith)))
     (cases_eq p (j + 1))
 
-item_at : (starts items : List ℕ) (kind : ArcKind) (x j : ℕ) → length items ≡ MAX_ITEMS → IsTypeIn starts kind → get_or (raised_by items kind x) j 0 ≡ get_or items j 0 + cond (carries (j + 1) kind) 1 0 * x
+pub item_at : (starts items : List ℕ) (kind : ArcKind) (x j : ℕ) → length items ≡ MAX_ITEMS → IsTypeIn starts kind → get_or (raised_by items kind x) j 0 ≡ get_or items j 0 + cond (carries (j + 1) kind) 1 0 * x
 item_at starts items (Bin t) x j size own = omega arith
 item_at starts items (Loss t tail head) x j size own = omega arith
 item_at starts items (Piece t tail head item form) x j size own = raised_at items item x j (own.2.0, omega (arith, own.2.1, size))
 
-item_le : (starts items : List ℕ) (kind : ArcKind) (x j : ℕ) → length items ≡ MAX_ITEMS → IsTypeIn starts kind → get_or (raised_by items kind x) j 0 ≤ get_or items j 0 + x
+pub item_le : (starts items : List ℕ) (kind : ArcKind) (x j : ℕ) → length items ≡ MAX_ITEMS → IsTypeIn starts kind → get_or (raised_by items kind x) j 0 ≤ get_or items j 0 + x
 item_le starts items (Bin t) x j size own = omega arith
 item_le starts items (Loss t tail head) x j size own = omega arith
 item_le starts items (Piece t tail head item form) x j size own = raised_le items item x j (own.2.0, omega (arith, own.2.1, size))
 
-item_size : (items : List ℕ) (kind : ArcKind) (x : ℕ) → length (raised_by items kind x) ≡ length items
+pub item_size : (items : List ℕ) (kind : ArcKind) (x : ℕ) → length (raised_by items kind x) ≡ length items
 item_size items (Bin t) x = refl
 item_size items (Loss t tail head) x = refl
 item_size items (Piece t tail head item form) x = length-set items (item - 1) (get_or items (item - 1) 0 + x)

@@ -29,7 +29,7 @@ way_sum g f bin way among is =
     ap (sum_by (at f (numbered g) 1)) is.closed ∙ omega (arith, first, rest, whole)
 
 -- a path leaves each node as often as it enters it, but for its two ends
-path_conserved : (arcs : List TypeArc) (q : Bool) (v a b : ℕ) (path : List TypeArc) → IsPath arcs a b path → sum_by (λ e. cond (q && (e.head == v)) 1 0) path + cond (q && (a == v)) 1 0 ≡ sum_by (λ e. cond (q && (e.tail == v)) 1 0) path + cond (q && (b == v)) 1 0
+pub path_conserved : (arcs : List TypeArc) (q : Bool) (v a b : ℕ) (path : List TypeArc) → IsPath arcs a b path → sum_by (λ e. cond (q && (e.head == v)) 1 0) path + cond (q && (a == v)) 1 0 ≡ sum_by (λ e. cond (q && (e.tail == v)) 1 0) path + cond (q && (b == v)) 1 0
 path_conserved arcs q v a b [] leads = ap (λ (n : ℕ). 0 + cond (q && (n == v)) 1 0) leads
 path_conserved arcs q v a b (e ∷ path) leads =
     let rest = path_conserved arcs q v e.head b path leads.2 in
@@ -53,7 +53,7 @@ way_conserved g t v bin way among is =
     omega (arith, one, two, heads, tails, whole)
 
 -- only the bin arc costs
-cost_kind : (I : InstanceValue) (s : ℕ) (e : TypeArc) → arc_cost I (kind_of s e) ≡ 0
+pub cost_kind : (I : InstanceValue) (s : ℕ) (e : TypeArc) → arc_cost I (kind_of s e) ≡ 0
 cost_kind I s e = kind_cases (λ kind. arc_cost I kind ≡ 0) s e refl refl
 
 pub way_cost : (I : InstanceValue) (g : List TypeValue) (bin : ℕ × Content) (way : List ℕ) → IsAmong bin.0 (length g) → IsWayOf g bin way → sum_by (at (arc_cost I) (numbered g) 1) way ≡ cost_at I bin.0
@@ -63,7 +63,7 @@ way_cost I g bin way among is =
     omega (arith, one, none)
 
 -- a path carries as many units of an item as its content has
-path_carries : (i s : ℕ) → 1 ≤ i → (path : List TypeArc) → sum_by (λ e. one_if (carries i) (kind_of s e)) path ≡ count_of_item i (content_of path)
+pub path_carries : (i s : ℕ) → 1 ≤ i → (path : List TypeArc) → sum_by (λ e. one_if (carries i) (kind_of s e)) path ≡ count_of_item i (content_of path)
 path_carries i s low [] = refl
 path_carries i s low (e ∷ path) =
     let rest = path_carries i s low path in
@@ -137,14 +137,14 @@ most (Loss t tail head) bin = 1
 most (Piece t tail head item form) bin = 1
 
 -- the bin arc of a way, and the arcs of its path
-record Found (g : List TypeValue) (a : ℕ) (kind : ArcKind) (s count : ℕ) : Type 0 where
+pub record Found (g : List TypeValue) (a : ℕ) (kind : ArcKind) (s count : ℕ) : Type 0 where
   first : arc_at g (first_arc g s) ≡ Some (Bin s)
   others : ℕ
   whole : count ≡ cond (first_arc g s == a) 1 0 + others
   once : others ≤ 1
   none : tail_of kind < 1 → others ≡ 0
 
-found : (g : List TypeValue) → IsFlowGraph g → (a : ℕ) (kind : ArcKind) → arc_at g a ≡ Some kind → (bin : ℕ × Content) (way : List ℕ) → IsAmong bin.0 (length g) → IsWayOf g bin way → Found g a kind bin.0 (count_by (λ m. m == a) way)
+pub found : (g : List TypeValue) → IsFlowGraph g → (a : ℕ) (kind : ArcKind) → arc_at g a ≡ Some kind → (bin : ℕ × Content) (way : List ℕ) → IsAmong bin.0 (length g) → IsWayOf g bin way → Found g a kind bin.0 (count_by (λ m. m == a) way)
 found g graph a kind at bin way among is =
     let s : ℕ = bin.0 in
     let own : IsFlowType (flow_type g s) = graph.each (s - 1) (record { nodes = 1; arcs = [] }) (omega (arith, among.0, among.1)) in
@@ -156,16 +156,16 @@ found g graph a kind at bin way among is =
       none = λ before. not_later g s own.climbs a kind at 1 (flow_type g s).nodes is.numbers is.path is.leads is.are before;
     }
 
-bin_same : (s t : ℕ) → Some (Bin s) ≡ Some (Bin t) → s ≡ t
+pub bin_same : (s t : ℕ) → Some (Bin s) ≡ Some (Bin t) → s ≡ t
 bin_same s t h = cc
 
-not_loss : (s t tail head : ℕ) → Some (Bin s) ≡ Some (Loss t tail head) → ⊥
+pub not_loss : (s t tail head : ℕ) → Some (Bin s) ≡ Some (Loss t tail head) → ⊥
 not_loss s t tail head h = cc
 
-not_piece : (s t tail head item form : ℕ) → Some (Bin s) ≡ Some (Piece t tail head item form) → ⊥
+pub not_piece : (s t tail head item form : ℕ) → Some (Bin s) ≡ Some (Piece t tail head item form) → ⊥
 not_piece s t tail head item form h = cc
 
-other_arc : (g : List TypeValue) (a : ℕ) (kind : ArcKind) (s count : ℕ) → Found g a kind s count → (first_arc g s ≡ a → ⊥) → count ≤ 1
+pub other_arc : (g : List TypeValue) (a : ℕ) (kind : ArcKind) (s count : ℕ) → Found g a kind s count → (first_arc g s ≡ a → ⊥) → count ≤ 1
 other_arc g a kind s count is apart =
     let none : cond {A = ℕ} (first_arc g s == a) 1 0 ≡ 0 = cond-false (first_arc g s == a) 1 0 (ne_eqb (first_arc g s) a apart) in
     let whole = is.whole in

@@ -79,7 +79,7 @@ pub fn root_box(alloc: Global, instance: &Instance, graph: &FlowGraph) -> Result
 }
 
 /// What an arc carries at most, where `units` is the sum of the demands.
-pub(crate) fn upper(instance: &Instance, units: u32, kind: &ArcKind) -> u32
+pub fn upper(instance: &Instance, units: u32, kind: &ArcKind) -> u32
     requires units { units ≡ units_of instance.now }
     requires arc { NamesType (length instance.now.types) kind.now }
     ensures { result ≡ upper_of instance.now kind.now }

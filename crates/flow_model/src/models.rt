@@ -69,8 +69,8 @@ fn push_node_rows(rows: &mut Vec<Row>, t: u32, nodes: u32) -> Result<(), Memory>
     Ok(())
 }
 
-// Appends the rows of the items.
-fn push_item_rows(rows: &mut Vec<Row>, instance: &Instance) -> Result<(), Memory>
+/// Appends the rows of the items, which each model of the instance has.
+pub fn push_item_rows(rows: &mut Vec<Row>, instance: &Instance) -> Result<(), Memory>
     ensures { IfOk result (λ _. rows.new.items ≡ rows.old.items ++ map (item_row instance.now) (up_to (length instance.now.items))) }
 {
     let alloc = *rows.allocator();
@@ -122,7 +122,7 @@ fn column(
 {
     Ok(Column {
         name: arc_name(alloc, number, kind)?,
-        cost: cost(instance, kind),
+        cost: unit_cost(instance, kind),
         entries: entries(alloc, starts, graph, kind)?,
         lower: 0,
         upper: u64::from(upper(instance, units, kind)),
@@ -151,8 +151,8 @@ fn item_name(alloc: Global, item: u32) -> Result<Name, Memory>
     Ok(Listed::new(text))
 }
 
-// The name of the column of an arc: `Z` for a bin arc and `F` for any other, and its number.
-fn arc_name(alloc: Global, number: u32, kind: &ArcKind) -> Result<Name, Memory>
+/// The name of the column of an arc: `Z` for a bin arc and `F` for any other, and its number.
+pub fn arc_name(alloc: Global, number: u32, kind: &ArcKind) -> Result<Name, Memory>
     ensures { IfOk result (λ name. name ≡ arc_name_of number kind.now) }
 {
     let letter = match *kind {
@@ -165,8 +165,8 @@ fn arc_name(alloc: Global, number: u32, kind: &ArcKind) -> Result<Name, Memory>
     Ok(Listed::new(text))
 }
 
-// What a unit on an arc costs.
-fn cost(instance: &Instance, kind: &ArcKind) -> i64
+/// What a unit on an arc costs.
+pub fn unit_cost(instance: &Instance, kind: &ArcKind) -> i64
     requires { NamesType (length instance.now.types) kind.now }
     ensures { result ≡ pos (arc_cost instance.now kind.now) }
 {
@@ -222,8 +222,8 @@ fn entries(
     Ok(Listed::new(entries))
 }
 
-// A unit leaves one row and enters another, in the order of the rows.
-fn moves(alloc: Global, tail: u32, head: u32) -> Result<Vec<Entry>, Memory>
+/// The entries of a unit that leaves one row and enters another, in the order of the rows.
+pub fn moves(alloc: Global, tail: u32, head: u32) -> Result<Vec<Entry>, Memory>
     ensures { IfOk result (λ entries. entries.items ≡ moves_of tail head) }
 {
     let leaves = Entry {

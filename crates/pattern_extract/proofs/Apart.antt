@@ -20,12 +20,12 @@ use Rattle.pattern_extract.specs.inner.Walks.{circuit_of}
 use Rattle.flow_graph.proofs.ArcKinds.{arc_climbs, some_same, type_is}
 
 -- where an arc begins; a bin arc counts as beginning in no node
-abbrev start_of : ArcKind → ℕ
+abbrev pub start_of : ArcKind → ℕ
 start_of (Bin s) = 0
 start_of (Loss s tail head) = tail
 start_of (Piece s tail head item form) = tail
 
-either_start : (b : Bool) (s tail head item form : ℕ) → start_of (cond b (Loss s tail head) (Piece s tail head item form)) ≡ tail
+pub either_start : (b : Bool) (s tail head item form : ℕ) → start_of (cond b (Loss s tail head) (Piece s tail head item form)) ≡ tail
 either_start true s tail head item form = refl
 either_start false s tail head item form = refl
 

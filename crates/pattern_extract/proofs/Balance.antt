@@ -16,16 +16,16 @@ use Rattle.flow_graph.proofs.ArcKinds.{comes_kind, goes_kind}
 use Rattle.pattern_extract.proofs.Places.{place_weight, one_if, number_weight-at}
 use Rattle.pattern_extract.proofs.Steps.{coming, going, coming-going}
 
-abbrev into : List TypeValue → ℕ → ℕ → ℕ → ℕ
+abbrev pub into : List TypeValue → ℕ → ℕ → ℕ → ℕ
 into g s v = place_weight (one_if (comes_in s v)) g
 
-abbrev from : List TypeValue → ℕ → ℕ → ℕ → ℕ
+abbrev pub from : List TypeValue → ℕ → ℕ → ℕ → ℕ
 from g s v = place_weight (one_if (goes_out g s v)) g
 
-abbrev at : ℕ → ℕ → ℕ → ℕ → ℕ
+abbrev pub at : ℕ → ℕ → ℕ → ℕ → ℕ
 at t s u v = cond ((t == s) && (u == v)) 1 0
 
-path-balance : (g : List TypeValue) (t s v : ℕ) (ns : List ℕ) (path : List TypeArc) (a b : ℕ) → IsPath (flow_type g t).arcs a b path → AreNumbersOf g t ns path → weight_along (into g s v) ns + at t s a v ≡ weight_along (from g s v) ns + at t s b v
+pub path-balance : (g : List TypeValue) (t s v : ℕ) (ns : List ℕ) (path : List TypeArc) (a b : ℕ) → IsPath (flow_type g t).arcs a b path → AreNumbersOf g t ns path → weight_along (into g s v) ns + at t s a v ≡ weight_along (from g s v) ns + at t s b v
 path-balance g t s v [] [] a b leads are = ap (λ (u : ℕ). 0 + at t s u v) leads
 path-balance g t s v [] (e ∷ path) a b leads are = absurd are
 path-balance g t s v (n ∷ ns) [] a b leads are = absurd are
@@ -37,7 +37,7 @@ path-balance g t s v (n ∷ ns) (e ∷ path) a b leads are =
     let two = sum_by-cons (λ (m : ℕ). from g s v (m - 1)) n ns in
     omega (arith, rest, head, tail, one, two)
 
-circuit-balance : (g : List TypeValue) (run : PathRun) (s v : ℕ) → IsRun g run → weight_along (into g s v) (circuit_of g run) ≡ weight_along (from g s v) (circuit_of g run)
+pub circuit-balance : (g : List TypeValue) (run : PathRun) (s v : ℕ) → IsRun g run → weight_along (into g s v) (circuit_of g run) ≡ weight_along (from g s v) (circuit_of g run)
 circuit-balance g run s v is =
     let t : ℕ = run.t in
     let path = is.path in

@@ -34,7 +34,7 @@ use Rattle.pattern_extract.proofs.PathContents.{circuit-cost, circuit-carries, r
 use Rattle.pattern_extract.proofs.Surplus.{value-most, value-small}
 
 -- sums over runs by what lies along them
-sum-same : (g : List TypeValue) (f : ℕ → ℕ) (h : PathRun → ℕ) (runs : List PathRun) → ((run : PathRun) → IsRun g run → weight_along f (circuit_of g run) ≡ h run) → All (IsRun g) runs → runs_weight g f runs ≡ sum_by (λ run. run.times * h run) runs
+pub sum-same : (g : List TypeValue) (f : ℕ → ℕ) (h : PathRun → ℕ) (runs : List PathRun) → ((run : PathRun) → IsRun g run → weight_along f (circuit_of g run) ≡ h run) → All (IsRun g) runs → runs_weight g f runs ≡ sum_by (λ run. run.times * h run) runs
 sum-same g f h [] same all = refl
 sum-same g f h (run ∷ runs) same all =
     let rest = sum-same g f h runs same (All-tail (IsRun g) run runs all) in
@@ -43,7 +43,7 @@ sum-same g f h (run ∷ runs) same all =
     let two = sum_by-cons (λ (r : PathRun). r.times * h r) run runs in
     omega (arith, rest, first, one, two)
 
-sum-most : (g : List TypeValue) (f : ℕ → ℕ) (h : PathRun → ℕ) (runs : List PathRun) → ((run : PathRun) → h run ≤ weight_along f (circuit_of g run)) → sum_by (λ run. run.times * h run) runs ≤ runs_weight g f runs
+pub sum-most : (g : List TypeValue) (f : ℕ → ℕ) (h : PathRun → ℕ) (runs : List PathRun) → ((run : PathRun) → h run ≤ weight_along f (circuit_of g run)) → sum_by (λ run. run.times * h run) runs ≤ runs_weight g f runs
 sum-most g f h [] most = omega arith
 sum-most g f h (run ∷ runs) most =
     let rest = sum-most g f h runs most in
@@ -65,7 +65,7 @@ runs-carry g values runs i all =
     sum_by-map (λ (b : Alike). b.times * count_of_item i b.counts) (bin_of g) runs ∙ sym (sum-same g f (λ run. count_of_item i (units_along (numbered g) run.arcs)) runs (circuit-carries g i) all.each) ∙ sym (all.sums f) ∙ sym (weigh_arcs-weigh (one_if (carries i)) (numbered g) values)
 
 -- the bin arc of type t is on each run of the type
-along-bin : (g : List TypeValue) (t : ℕ) (run : PathRun) → cond (run.t == t) 1 0 ≤ weight_along (only (first_arc g t)) (circuit_of g run)
+pub along-bin : (g : List TypeValue) (t : ℕ) (run : PathRun) → cond (run.t == t) 1 0 ≤ weight_along (only (first_arc g t)) (circuit_of g run)
 along-bin g t run =
     ⊎_elim
     (λ same.
@@ -78,7 +78,7 @@ along-bin g t run =
     (cases_eq run.t t)
 
 -- as many bins of a type are used as its bin arc says, or fewer
-runs-used : (g : List TypeValue) (values : List ℕ) (runs : List PathRun) (t : ℕ) → HoldAll g values runs → over_types (λ s. cond (s == t) 1 0) (map (bin_of g) runs) ≤ get_or values (first_arc g t - 1) 0
+pub runs-used : (g : List TypeValue) (values : List ℕ) (runs : List PathRun) (t : ℕ) → HoldAll g values runs → over_types (λ s. cond (s == t) 1 0) (map (bin_of g) runs) ≤ get_or values (first_arc g t - 1) 0
 runs-used g values runs t all =
     let mapped = sum_by-map (λ (b : Alike). b.times * cond (b.bin_type == t) 1 0) (bin_of g) runs in
     let most = sum-most g (only (first_arc g t)) (λ run. cond (run.t == t) 1 0) runs (along-bin g t) in
@@ -86,7 +86,7 @@ runs-used g values runs t all =
     let value = weigh-one values (first_arc g t - 1) in
     omega (arith, mapped, most, sums, value)
 
-within-limit : (n units : ℕ) (limit : Option ℕ) → n ≤ limited units limit → IfSome limit (λ q. n ≤ q)
+pub within-limit : (n units : ℕ) (limit : Option ℕ) → n ≤ limited units limit → IfSome limit (λ q. n ≤ q)
 within-limit n units None most = tt
 within-limit n units (Some q) most = omega (arith, most)
 
@@ -105,12 +105,12 @@ runs-small I g values runs instance flow all k d within =
 pub runs-fit : (I : InstanceValue) (g : List TypeValue) (runs : List PathRun) → IsFaithful I g → All (IsRun g) runs → All (IsUsedBin I) (map (bin_of g) runs)
 runs-fit I g runs faithful all = All-map (IsUsedBin I) (bin_of g) runs (All-weaker (IsRun g) (λ run. IsUsedBin I (bin_of g run)) (λ run is. run-fits I g run faithful is) runs all)
 
-scaled : (n : ℕ) (b : Bool) → n * cond b 1 0 ≡ cond b n 0
+pub scaled : (n : ℕ) (b : Bool) → n * cond b 1 0 ≡ cond b n 0
 scaled n true = omega arith
 scaled n false = omega arith
 
 -- bins of one type, as a sum over types
-types-of : (t : ℕ) (bins : List Alike) → bins_of_type t bins ≡ over_types (λ s. cond (s == t) 1 0) bins
+pub types-of : (t : ℕ) (bins : List Alike) → bins_of_type t bins ≡ over_types (λ s. cond (s == t) 1 0) bins
 types-of t [] = refl
 types-of t (b ∷ bins) =
     let rest = types-of t bins in
@@ -120,7 +120,7 @@ types-of t (b ∷ bins) =
     omega (arith, rest, first, one, two)
 
 -- the bins of the runs of a type are used as often as the runs go over its bin arc
-runs-of-type : (g : List TypeValue) (t : ℕ) (runs : List PathRun) → IsFlowGraph g → IsAmong t (length g) → All (IsRun g) runs → over_types (λ s. cond (s == t) 1 0) (map (bin_of g) runs) ≡ times_over g runs (first_arc g t)
+pub runs-of-type : (g : List TypeValue) (t : ℕ) (runs : List PathRun) → IsFlowGraph g → IsAmong t (length g) → All (IsRun g) runs → over_types (λ s. cond (s == t) 1 0) (map (bin_of g) runs) ≡ times_over g runs (first_arc g t)
 runs-of-type g t [] is among all = refl
 runs-of-type g t (run ∷ runs) is among all =
     let rest = runs-of-type g t runs is among (All-tail (IsRun g) run runs all) in

@@ -28,7 +28,7 @@ pub record IsTakenSoFar (old new : List ℕ) (times n : ℕ) (arcs : List ℕ) :
 pub taken-none : (old : List ℕ) (times : ℕ) (arcs : List ℕ) → IsTakenSoFar old old times 0 arcs
 taken-none old times arcs = record { taken = λ f. omega arith; rest = λ j d low within. refl }
 
-scaled : (times s w : ℕ) → times * (s + w) ≡ times * s + times * w
+pub scaled : (times s w : ℕ) → times * (s + w) ≡ times * s + times * w
 scaled times s w = omega arith
 
 -- one more arc; what is on it is at least as much
@@ -103,7 +103,7 @@ taken-falls old new times arcs taken k =
     omega (arith, all, before, after)
 
 -- an arc of these weighs at least once
-along-some : (a : ℕ) (ns : List ℕ) → list_any (λ n. n == a) ns ≡ true → 1 ≤ weight_along (λ k. cond (k == a - 1) 1 0) ns
+pub along-some : (a : ℕ) (ns : List ℕ) → list_any (λ n. n == a) ns ≡ true → 1 ≤ weight_along (λ k. cond (k == a - 1) 1 0) ns
 along-some a [] h = absurd (cc)
 along-some a (n ∷ ns) h = by (n == a) refl h (along-some a ns)
   where
@@ -119,13 +119,13 @@ along-some a (n ∷ ns) h = by (n == a) refl h (along-some a ns)
     by false e h next = let rest = next h in let s = split in omega (arith, s, rest)
 
 -- where nothing is left any more of what was there
-some-less : (x y : ℕ) → y ≤ x → (if y == 0 then 0 else 1) ≤ (if x == 0 then 0 else 1)
+pub some-less : (x y : ℕ) → y ≤ x → (if y == 0 then 0 else 1) ≤ (if x == 0 then 0 else 1)
 some-less x y le = grind (arith, nat_tests)
 
-gone : (x y : ℕ) → 0 < x → y ≡ 0 → (if y == 0 then 0 else 1) + 1 ≤ (if x == 0 then 0 else 1)
+pub gone : (x y : ℕ) → 0 < x → y ≡ 0 → (if y == 0 then 0 else 1) + 1 ≤ (if x == 0 then 0 else 1)
 gone x y some none = grind (arith, nat_tests)
 
-none-left : (new : List ℕ) → ((k : ℕ) → get_or new k 0 ≤ 0) → arcs_left new ≡ 0
+pub none-left : (new : List ℕ) → ((k : ℕ) → get_or new k 0 ≤ 0) → arcs_left new ≡ 0
 none-left [] falls = refl
 none-left (y ∷ new) falls =
     let first = falls 0 in
@@ -133,7 +133,7 @@ none-left (y ∷ new) falls =
     let rest = none-left new (λ k. falls (suc k)) in
     omega (arith, none, rest)
 
-no-more : (old new : List ℕ) → ((k : ℕ) → get_or new k 0 ≤ get_or old k 0) → arcs_left new ≤ arcs_left old
+pub no-more : (old new : List ℕ) → ((k : ℕ) → get_or new k 0 ≤ get_or old k 0) → arcs_left new ≤ arcs_left old
 no-more old [] falls = omega arith
 no-more [] (y ∷ new) falls = let none = none-left (y ∷ new) falls in omega (arith, none)
 no-more (x ∷ old) (y ∷ new) falls =
@@ -141,7 +141,7 @@ no-more (x ∷ old) (y ∷ new) falls =
     let rest = no-more old new (λ k. falls (suc k)) in
     omega (arith, first, rest)
 
-fewer : (old new : List ℕ) (k : ℕ) → ((k : ℕ) → get_or new k 0 ≤ get_or old k 0) → 0 < get_or old k 0 → get_or new k 0 ≡ 0 → arcs_left new + 1 ≤ arcs_left old
+pub fewer : (old new : List ℕ) (k : ℕ) → ((k : ℕ) → get_or new k 0 ≤ get_or old k 0) → 0 < get_or old k 0 → get_or new k 0 ≡ 0 → arcs_left new + 1 ≤ arcs_left old
 fewer [] new k falls some none = absurd (omega (arith, some))
 fewer (x ∷ old) [] zero falls some none = let one = gone x 0 some refl in omega (arith, one)
 fewer (x ∷ old) [] (suc k) falls some none = let rest = fewer old [] k (λ j. omega arith) some refl in omega (arith, rest)
@@ -155,7 +155,7 @@ fewer (x ∷ old) (y ∷ new) (suc k) falls some none =
     omega (arith, one, rest)
 
 -- what is taken off an arc that has no more
-fewer-taken : (old new : List ℕ) (times : ℕ) (arcs : List ℕ) → 1 ≤ times → IsUsedUp old times arcs → IsTaken old new times arcs → arcs_left new + 1 ≤ arcs_left old
+pub fewer-taken : (old new : List ℕ) (times : ℕ) (arcs : List ℕ) → 1 ≤ times → IsUsedUp old times arcs → IsTaken old new times arcs → arcs_left new + 1 ≤ arcs_left old
 fewer-taken old new times arcs once used taken =
     let b : ℕ = used.arc - 1 in
     let all = taken (λ k. cond (k == b) 1 0) in
@@ -235,7 +235,7 @@ bin-inside g t among = number-within g (first_arc g t) (Bin t) (has_numbers g t 
 pub path-within : (g : List TypeValue) (run : PathRun) → IsFlowGraph g → IsRun g run → All (λ a. IsAmong a (length (numbered g))) run.arcs
 path-within g run is one k d within = circuit-within g run is one (suc k) d (omega (arith, within))
 
-left-most : (left : List ℕ) → arcs_left left ≤ length left
+pub left-most : (left : List ℕ) → arcs_left left ≤ length left
 left-most [] = omega arith
 left-most (x ∷ left) =
     let first : (if x == 0 then 0 else 1) ≤ 1 = grind (arith, nat_tests) in

@@ -10,43 +10,43 @@ use Rattle.packing_laws.specs.Packings.{Content, count_of_form}
 use Rattle.packing_laws.proofs.TidyParts.{sum_by-map}
 use Rattle.pattern_extract.specs.Trims.{refilled, IsBelow, IsBinPart, times_of, AreParts}
 
-abbrev Part : Type 0
+abbrev pub Part : Type 0
 Part = ℕ × Bin
 
-abbrev bin_in : Part → Bin
+abbrev pub bin_in : Part → Bin
 bin_in part = part.1
 
 -- the times of a part, where it is of the bin at this place
-abbrev times_at : ℕ → Part → ℕ
+abbrev pub times_at : ℕ → Part → ℕ
 times_at place part = cond (part.0 == place) part.1.times 0
 
 -- each given bin is a part of itself
 
-abbrev next : Part → Part
+abbrev pub next : Part → Part
 next part = (suc part.0, part.1)
 
-abbrev own_parts : List Bin → List Part
+abbrev pub own_parts : List Bin → List Part
 own_parts [] = []
 own_parts (b ∷ bins) = (0, b) ∷ map next (own_parts bins)
 
-next-bins : (parts : List Part) → map bin_in (map next parts) ≡ map bin_in parts
+pub next-bins : (parts : List Part) → map bin_in (map next parts) ≡ map bin_in parts
 next-bins [] = refl
 next-bins (part ∷ parts) = ap (λ (z : List Bin). part.1 ∷ z) (next-bins parts)
 
-own-bins : (bins : List Bin) → map bin_in (own_parts bins) ≡ bins
+pub own-bins : (bins : List Bin) → map bin_in (own_parts bins) ≡ bins
 own-bins [] = refl
 own-bins (b ∷ bins) = ap (λ (z : List Bin). b ∷ z) (next-bins (own_parts bins) ∙ own-bins bins)
 
-next-part : (b : Bin) (bins : List Bin) (part : Part) → IsBinPart bins part → IsBinPart (b ∷ bins) (next part)
+pub next-part : (b : Bin) (bins : List Bin) (part : Part) → IsBinPart bins part → IsBinPart (b ∷ bins) (next part)
 next-part b bins part is = record { whole = is.whole; there = is.there; same_type = is.same_type; below = is.below }
 
-own-each : (bins : List Bin) → All (IsBinPart bins) (own_parts bins)
+pub own-each : (bins : List Bin) → All (IsBinPart bins) (own_parts bins)
 own-each [] = All-nil (IsBinPart [])
 own-each (b ∷ bins) =
     All-cons (IsBinPart (b ∷ bins)) (0, b) (map next (own_parts bins)) (record { whole = b; there = refl; same_type = refl; below = λ i f. omega arith })
     (All-map (IsBinPart (b ∷ bins)) next (own_parts bins) (All-weaker (IsBinPart bins) (λ part. IsBinPart (b ∷ bins) (next part)) (λ part is. next-part b bins part is) (own_parts bins) (own-each bins)))
 
-none-first : (parts : List Part) → times_of 0 (map next parts) ≡ 0
+pub none-first : (parts : List Part) → times_of 0 (map next parts) ≡ 0
 none-first [] = refl
 none-first (part ∷ parts) =
     let rest = none-first parts in
@@ -54,13 +54,13 @@ none-first (part ∷ parts) =
     let none : times_at 0 (next part) ≡ 0 = ap (λ (b : Bool). cond {A = ℕ} b part.1.times 0) (ne_eqb (suc part.0) 0 (λ h. omega (arith, h))) in
     omega (arith, rest, split, none)
 
-same-later : (place : ℕ) (part : Part) → times_at (suc place) (next part) ≡ times_at place part
+pub same-later : (place : ℕ) (part : Part) → times_at (suc place) (next part) ≡ times_at place part
 same-later place part = ⊎_elim
     (λ e. rw (eq-eqb part.0 place e, eq-eqb (suc part.0) (suc place) (ap suc e)) refl)
     (λ apart. rw (ne_eqb part.0 place apart, ne_eqb (suc part.0) (suc place) (λ h. apart (omega (arith, h)))) refl)
     (cases_eq part.0 place)
 
-later-times : (place : ℕ) (parts : List Part) → times_of (suc place) (map next parts) ≡ times_of place parts
+pub later-times : (place : ℕ) (parts : List Part) → times_of (suc place) (map next parts) ≡ times_of place parts
 later-times place [] = refl
 later-times place (part ∷ parts) =
     let rest = later-times place parts in
@@ -69,10 +69,10 @@ later-times place (part ∷ parts) =
     let same = same-later place part in
     omega (arith, rest, one, two, same)
 
-some-bin : (x y : Bin) → Some x ≡ Some y → x ≡ y
+pub some-bin : (x y : Bin) → Some x ≡ Some y → x ≡ y
 some-bin x y h = cc
 
-own-times : (bins : List Bin) (place : ℕ) (whole : Bin) → slice_get bins place ≡ Some whole → times_of place (own_parts bins) ≡ whole.times
+pub own-times : (bins : List Bin) (place : ℕ) (whole : Bin) → slice_get bins place ≡ Some whole → times_of place (own_parts bins) ≡ whole.times
 own-times [] place whole there = absurd (cc)
 own-times (b ∷ bins) zero whole there =
     let split = sum_by-cons (times_at 0) (0, b) (map next (own_parts bins)) in
@@ -91,7 +91,7 @@ parts-own bins = record { parts = own_parts bins; all = own-bins bins; each = ow
 
 -- one bin among others
 
-record IsCut (parts : List Part) (front : List Bin) (b : Bin) (behind : List Bin) : Type 0 where
+pub record IsCut (parts : List Part) (front : List Bin) (b : Bin) (behind : List Bin) : Type 0 where
   pub before : List Part
   pub part : Part
   pub after : List Part
@@ -100,7 +100,7 @@ record IsCut (parts : List Part) (front : List Bin) (b : Bin) (behind : List Bin
   pub part_is : part.1 ≡ b
   pub behind_is : map bin_in after ≡ behind
 
-cut : (parts : List Part) (front : List Bin) (b : Bin) (behind : List Bin) → map bin_in parts ≡ front ++ b ∷ behind → IsCut parts front b behind
+pub cut : (parts : List Part) (front : List Bin) (b : Bin) (behind : List Bin) → map bin_in parts ≡ front ++ b ∷ behind → IsCut parts front b behind
 cut [] [] b behind h = absurd (cc)
 cut [] (x ∷ front) b behind h = absurd (cc)
 cut (part ∷ parts) [] b behind h = record { before = []; part = part; after = parts; whole = refl; front_is = refl; part_is = cc; behind_is = cc }
@@ -118,16 +118,16 @@ cut (part ∷ parts) (x ∷ front) b behind h =
       behind_is = rest.behind_is;
     }
 
-all-front : {X : Type 0} (P : X → Type 0) (xs ys : List X) → All P (xs ++ ys) → All P xs
+pub all-front : {X : Type 0} (P : X → Type 0) (xs ys : List X) → All P (xs ++ ys) → All P xs
 all-front P [] ys all = All-nil P
 all-front P (x ∷ xs) ys all = All-cons P x xs (All-head P x (xs ++ ys) all) (all-front P xs ys (All-tail P x (xs ++ ys) all))
 
-all-behind : {X : Type 0} (P : X → Type 0) (xs ys : List X) → All P (xs ++ ys) → All P ys
+pub all-behind : {X : Type 0} (P : X → Type 0) (xs ys : List X) → All P (xs ++ ys) → All P ys
 all-behind P [] ys all = all
 all-behind P (x ∷ xs) ys all = all-behind P xs ys (All-tail P x (xs ++ ys) all)
 
 -- fewer units of a part are a part
-part-below : (given : List Bin) (place times : ℕ) (b : Bin) (kept : Content) (part : Part) → part.0 ≡ place → part.1 ≡ b → IsBelow kept b.counts → IsBinPart given part → IsBinPart given (place, refilled b times kept)
+pub part-below : (given : List Bin) (place times : ℕ) (b : Bin) (kept : Content) (part : Part) → part.0 ≡ place → part.1 ≡ b → IsBelow kept b.counts → IsBinPart given part → IsBinPart given (place, refilled b times kept)
 part-below given place times b kept part at is below own = record {
   whole = own.whole;
   there = ap (slice_get given) (sym at) ∙ own.there;
@@ -135,11 +135,11 @@ part-below given place times b kept part at is below own = record {
   below = λ i f. let one = below i f in let two = own.below i f in let same : count_of_form i f part.1.counts ≡ count_of_form i f b.counts = ap (λ (z : Bin). count_of_form i f z.counts) is in omega (arith, one, two, same);
 }
 
-shared : (t : Bool) (a b c : ℕ) → a + b ≡ c → cond t a 0 + cond t b 0 ≡ cond {A = ℕ} t c 0
+pub shared : (t : Bool) (a b c : ℕ) → a + b ≡ c → cond t a 0 + cond t b 0 ≡ cond {A = ℕ} t c 0
 shared true a b c e = e
 shared false a b c e = omega arith
 
-times-cut : (place : ℕ) (before : List Part) (part : Part) (after : List Part) → times_of place (before ++ part ∷ after) ≡ times_of place before + (times_at place part + times_of place after)
+pub times-cut : (place : ℕ) (before : List Part) (part : Part) (after : List Part) → times_of place (before ++ part ∷ after) ≡ times_of place before + (times_at place part + times_of place after)
 times-cut place before part after =
     let one = sum_by-append (times_at place) before (part ∷ after) in
     let two = sum_by-cons (times_at place) part after in

@@ -25,7 +25,7 @@ use Rattle.pattern_extract.specs.Extracts.{unit_on, units_along, bin_of}
 use Rattle.pattern_extract.specs.Trims.{IsUsedBin}
 use Rattle.pattern_extract.proofs.Places.{place_weight, one_if, number_weight-at}
 
-one-unit : (o : Option Count) → cons_option o [] ≡ option_to_list o
+pub one-unit : (o : Option Count) → cons_option o [] ≡ option_to_list o
 one-unit None = refl
 one-unit (Some n) = refl
 
@@ -34,7 +34,7 @@ units-more kinds arcs n within =
     let h : ℕ → Option Count = λ a. unit_on (get_or kinds (a - 1) (Bin 0)) in
     ap (filter_map h) (take_more arcs n 0 within) ∙ filter_map-append h (take n arcs) (get_or arcs n 0 ∷ []) ∙ ap (λ (c : Content). filter_map h (take n arcs) ++ c) (one-unit (h (get_or arcs n 0)))
 
-either_unit : (b : Bool) (t tail head item form : ℕ) (c : Content) → cons_option (unit_on (cond b (Loss t tail head) (Piece t tail head item form))) c ≡ cond b c (record { item = item; form = form; count = 1 } ∷ c)
+pub either_unit : (b : Bool) (t tail head item form : ℕ) (c : Content) → cons_option (unit_on (cond b (Loss t tail head) (Piece t tail head item form))) c ≡ cond b c (record { item = item; form = form; count = 1 } ∷ c)
 either_unit true t tail head item form c = refl
 either_unit false t tail head item form c = refl
 
@@ -49,7 +49,7 @@ units-content g t (n ∷ ns) (e ∷ path) are =
     ap (λ (kind : ArcKind). cons_option (unit_on kind) (units_along (numbered g) ns)) there ∙ ap (cons_option (unit_on (kind_of t e))) rest ∙ either_unit (e.item == 0) t e.tail e.head e.item e.form (content_of path)
 
 -- weights along a path
-path-weight : (w : ArcKind → ℕ) (g : List TypeValue) (t : ℕ) (ns : List ℕ) (path : List TypeArc) → AreNumbersOf g t ns path → weight_along (place_weight w g) ns ≡ sum_by (λ e. w (kind_of t e)) path
+pub path-weight : (w : ArcKind → ℕ) (g : List TypeValue) (t : ℕ) (ns : List ℕ) (path : List TypeArc) → AreNumbersOf g t ns path → weight_along (place_weight w g) ns ≡ sum_by (λ e. w (kind_of t e)) path
 path-weight w g t [] [] are = refl
 path-weight w g t [] (e ∷ path) are = absurd are
 path-weight w g t (n ∷ ns) [] are = absurd are
@@ -67,11 +67,11 @@ circuit-weight w g run is =
     let one = sum_by-cons (λ (a : ℕ). place_weight w g (a - 1)) (first_arc g run.t) run.arcs in
     omega (arith, rest, first, one)
 
-either_cost : (I : InstanceValue) (b : Bool) (t tail head item form : ℕ) → arc_cost I (cond b (Loss t tail head) (Piece t tail head item form)) ≡ 0
+pub either_cost : (I : InstanceValue) (b : Bool) (t tail head item form : ℕ) → arc_cost I (cond b (Loss t tail head) (Piece t tail head item form)) ≡ 0
 either_cost I true t tail head item form = refl
 either_cost I false t tail head item form = refl
 
-path-free : (I : InstanceValue) (t : ℕ) (path : List TypeArc) → sum_by (λ e. arc_cost I (kind_of t e)) path ≡ 0
+pub path-free : (I : InstanceValue) (t : ℕ) (path : List TypeArc) → sum_by (λ e. arc_cost I (kind_of t e)) path ≡ 0
 path-free I t [] = refl
 path-free I t (e ∷ path) =
     let rest = path-free I t path in
@@ -86,11 +86,11 @@ circuit-cost I g run is =
     let free = path-free I run.t is.path.0 in
     omega (arith, all, free)
 
-either_carries : (i : ℕ) (b : Bool) (t tail head item form : ℕ) (c : Content) → count_of_item i (cond b c (record { item = item; form = form; count = 1 } ∷ c)) ≡ one_if (carries i) (cond b (Loss t tail head) (Piece t tail head item form)) + count_of_item i c
+pub either_carries : (i : ℕ) (b : Bool) (t tail head item form : ℕ) (c : Content) → count_of_item i (cond b c (record { item = item; form = form; count = 1 } ∷ c)) ≡ one_if (carries i) (cond b (Loss t tail head) (Piece t tail head item form)) + count_of_item i c
 either_carries i true t tail head item form c = omega arith
 either_carries i false t tail head item form c = sum_by-cons (λ (n : Count). cond (n.item == i) n.count 0) (record { item = item; form = form; count = 1 }) c
 
-path-carries : (i t : ℕ) (path : List TypeArc) → sum_by (λ e. one_if (carries i) (kind_of t e)) path ≡ count_of_item i (content_of path)
+pub path-carries : (i t : ℕ) (path : List TypeArc) → sum_by (λ e. one_if (carries i) (kind_of t e)) path ≡ count_of_item i (content_of path)
 path-carries i t [] = refl
 path-carries i t (e ∷ path) =
     let rest = path-carries i t path in

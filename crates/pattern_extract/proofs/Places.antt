@@ -31,11 +31,11 @@ number_weight-at w g a kind at = place_weight-at w g (a - 1) kind (place_of g a 
 pub kind_there : (g : List TypeValue) (k : ℕ) (kind : ArcKind) → slice_get (numbered g) k ≡ Some kind → IsKindAt g (suc k) kind
 kind_there g k kind at = kind_at g (suc k) kind (number_of g k kind at)
 
-either_goes : (b : Bool) (s t v tail head item form : ℕ) → goes_on t v (cond b (Loss s tail head) (Piece s tail head item form)) ≡ ((s == t) && (tail == v))
+pub either_goes : (b : Bool) (s t v tail head item form : ℕ) → goes_on t v (cond b (Loss s tail head) (Piece s tail head item form)) ≡ ((s == t) && (tail == v))
 either_goes true s t v tail head item form = refl
 either_goes false s t v tail head item form = refl
 
-either_head : (b : Bool) (s tail head item form : ℕ) → head_of (cond b (Loss s tail head) (Piece s tail head item form)) ≡ head
+pub either_head : (b : Bool) (s tail head item form : ℕ) → head_of (cond b (Loss s tail head) (Piece s tail head item form)) ≡ head
 either_head true s tail head item form = refl
 either_head false s tail head item form = refl
 
@@ -54,7 +54,7 @@ pub record IsArcFrom (g : List TypeValue) (t v k : ℕ) (kind : ArcKind) : Type 
   pub same : kind ≡ kind_of t (get_or (flow_type g t).arcs at nothing)
   pub tail : (get_or (flow_type g t).arcs at nothing).tail ≡ v
 
-goes-from : (g : List TypeValue) (t v k : ℕ) (kind : ArcKind) → goes_on t v kind ≡ true → IsKindAt g (suc k) kind → IsArcFrom g t v k kind
+pub goes-from : (g : List TypeValue) (t v k : ℕ) (kind : ArcKind) → goes_on t v kind ≡ true → IsKindAt g (suc k) kind → IsArcFrom g t v k kind
 goes-from g t v k kind goes (is_bin s among place same) = let bad : goes_on t v (Bin s) ≡ true = ap (goes_on t v) (sym same) ∙ goes in cc
 goes-from g t v k kind goes (is_arc s among j e at place same) =
     let both = and_parts (s == t) (e.tail == v) (sym (goes_on-kind s t v e) ∙ ap (goes_on t v) (sym same) ∙ goes) in

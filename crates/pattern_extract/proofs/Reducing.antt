@@ -36,41 +36,41 @@ reduced-none times old before = record {
   falls = λ k. omega arith;
 }
 
-step-units : (t s k a b r taken : ℕ) → t * s + a ≡ t * k + b → taken * t ≤ a → t * (s + (r + taken)) + (a - taken * t) ≡ t * (k + r) + b
+pub step-units : (t s k a b r taken : ℕ) → t * s + a ≡ t * k + b → taken * t ≤ a → t * (s + (r + taken)) + (a - taken * t) ≡ t * (k + r) + b
 step-units t s k a b r taken before most = omega (arith, before, most)
 
-some-rest : (m : Count) (taken : ℕ) → taken ≢ m.count → rest_of m taken ≡ record m { count = m.count - taken } ∷ []
+pub some-rest : (m : Count) (taken : ℕ) → taken ≢ m.count → rest_of m taken ≡ record m { count = m.count - taken } ∷ []
 some-rest m taken other = rw (ne_eqb taken m.count other) refl
 
-no-rest : (m : Count) (taken : ℕ) → taken ≡ m.count → rest_of m taken ≡ []
+pub no-rest : (m : Count) (taken : ℕ) → taken ≡ m.count → rest_of m taken ≡ []
 no-rest m taken same = rw (eq-eqb taken m.count same) refl
 
-rest-weight : (f : Count → ℕ) (w : ℕ) (m : Count) (taken : ℕ) → f (record m { count = m.count - taken }) ≡ (m.count - taken) * w → sum_by f (rest_of m taken) ≡ (m.count - taken) * w
+pub rest-weight : (f : Count → ℕ) (w : ℕ) (m : Count) (taken : ℕ) → f (record m { count = m.count - taken }) ≡ (m.count - taken) * w → sum_by f (rest_of m taken) ≡ (m.count - taken) * w
 rest-weight f w m taken is = ⊎_elim
     (λ same. let none : m.count - taken ≡ 0 = omega (arith, same) in rw (no-rest m taken same, none) (omega arith))
     (λ other. rw (some-rest m taken other) (sum_by-cons f (record m { count = m.count - taken }) [] ∙ omega (arith, is)))
     (cases_eq taken m.count)
 
-count-weight : (b : Bool) (n : ℕ) → cond b n 0 ≡ n * cond b 1 0
+pub count-weight : (b : Bool) (n : ℕ) → cond b n 0 ≡ n * cond b 1 0
 count-weight true n = omega arith
 count-weight false n = omega arith
 
-rest-units : (i : ℕ) (m : Count) (taken : ℕ) → count_of_item i (rest_of m taken) ≡ (m.count - taken) * cond (m.item == i) 1 0
+pub rest-units : (i : ℕ) (m : Count) (taken : ℕ) → count_of_item i (rest_of m taken) ≡ (m.count - taken) * cond (m.item == i) 1 0
 rest-units i m taken = rest-weight (λ n. cond (n.item == i) n.count 0) (cond (m.item == i) 1 0) m taken (count-weight (m.item == i) (m.count - taken))
 
-rest-exists : (I : InstanceValue) (m : Count) (taken : ℕ) → Exists I m → All (Exists I) (rest_of m taken)
+pub rest-exists : (I : InstanceValue) (m : Count) (taken : ℕ) → Exists I m → All (Exists I) (rest_of m taken)
 rest-exists I m taken is = ⊎_elim
     (λ same. subst (All (Exists I)) (sym (no-rest m taken same)) (All-nil (Exists I)))
     (λ other. subst (All (Exists I)) (sym (some-rest m taken other)) (All-cons (Exists I) (record m { count = m.count - taken }) [] (record { item = is.item; form = is.form }) (All-nil (Exists I))))
     (cases_eq taken m.count)
 
-rest-items : (k : ℕ) (m : Count) (taken : ℕ) → IsAmong m.item k → All (λ c. IsAmong c.item k) (rest_of m taken)
+pub rest-items : (k : ℕ) (m : Count) (taken : ℕ) → IsAmong m.item k → All (λ c. IsAmong c.item k) (rest_of m taken)
 rest-items k m taken is = ⊎_elim
     (λ same. subst (All (λ c. IsAmong c.item k)) (sym (no-rest m taken same)) (All-nil (λ c. IsAmong c.item k)))
     (λ other. subst (All (λ c. IsAmong c.item k)) (sym (some-rest m taken other)) (All-cons (λ c. IsAmong c.item k) (record m { count = m.count - taken }) [] is (All-nil (λ c. IsAmong c.item k))))
     (cases_eq taken m.count)
 
-scaled : (a b w : ℕ) → a ≤ b → a * w ≤ b * w
+pub scaled : (a b w : ℕ) → a ≤ b → a * w ≤ b * w
 scaled a b w most = mul-le-mul_right w most
 
 module _ (times n : ℕ) (old new : Content) (before after : List ℕ) (m : Count) (taken : ℕ) (sofar : IsReducedSoFar times n old new before after) (within : n < length old) (is : m ≡ get_or old n m) (count : taken ≤ m.count) (most : taken * times ≤ surplus_at after m.item) (all : taken < m.count → surplus_at after m.item < taken * times + times) (among : IsAmong m.item (length after)) where
@@ -151,7 +151,7 @@ reduced-next times n old new before after m taken less more sofar within is coun
     (subst (λ (c : Content). IsReducedSoFar times (n + 1) old c before (set after (m.item - 1) (surplus_at after m.item - taken * times))) (sym more-is) next)
 
 -- units of one form, as a weight
-form-weight : (i f : ℕ) (c : Content) → weigh_counts (λ j h. cond ((j == i) && (h == f)) 1 0) c ≡ count_of_form i f c
+pub form-weight : (i f : ℕ) (c : Content) → weigh_counts (λ j h. cond ((j == i) && (h == f)) 1 0) c ≡ count_of_form i f c
 form-weight i f [] = refl
 form-weight i f (n ∷ c) =
     let rest = form-weight i f c in
@@ -161,7 +161,7 @@ form-weight i f (n ∷ c) =
     omega (arith, rest, first, one, two)
 
 -- units of one item, as a weight
-item-weight : (i : ℕ) (c : Content) → weigh_counts (λ j h. cond (j == i) 1 0) c ≡ count_of_item i c
+pub item-weight : (i : ℕ) (c : Content) → weigh_counts (λ j h. cond (j == i) 1 0) c ≡ count_of_item i c
 item-weight i [] = refl
 item-weight i (n ∷ c) =
     let rest = item-weight i c in
@@ -171,7 +171,7 @@ item-weight i (n ∷ c) =
     omega (arith, rest, first, one, two)
 
 -- what weighs no more under any weights keeps the caps too
-caps-kept : (I : InstanceValue) (new old : Content) → ((w : ℕ → ℕ → ℕ) → weigh_counts w new ≤ weigh_counts w old) → KeepsCaps I old → KeepsCaps I new
+pub caps-kept : (I : InstanceValue) (new old : Content) → ((w : ℕ → ℕ → ℕ) → weigh_counts w new ≤ weigh_counts w old) → KeepsCaps I old → KeepsCaps I new
 caps-kept I new old less kept =
     All-weaker (λ (k : ItemCap). count_of_item k.item old ≤ k.count) (λ (k : ItemCap). count_of_item k.item new ≤ k.count)
     (λ k most.
@@ -181,7 +181,7 @@ caps-kept I new old less kept =
     omega (arith, all, one, two, most))
     I.caps kept
 
-below-all : (new old : Content) → ((w : ℕ → ℕ → ℕ) → weigh_counts w new ≤ weigh_counts w old) → IsBelow new old
+pub below-all : (new old : Content) → ((w : ℕ → ℕ → ℕ) → weigh_counts w new ≤ weigh_counts w old) → IsBelow new old
 below-all new old less i f =
     let all = less (λ j h. cond ((j == i) && (h == f)) 1 0) in
     let one = form-weight i f new in

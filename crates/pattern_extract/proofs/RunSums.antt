@@ -16,11 +16,11 @@ use Rattle.pattern_extract.proofs.Apart.{circuit-apart, circuit-within}
 abbrev pub only : ℕ → ℕ → ℕ
 only a k = cond (k == a - 1) 1 0
 
-pairs-tail : (x : ℕ) (xs : List ℕ) → AllPairs (λ n m. n ≢ m) (x ∷ xs) → AllPairs (λ n m. n ≢ m) xs
+pub pairs-tail : (x : ℕ) (xs : List ℕ) → AllPairs (λ n m. n ≢ m) (x ∷ xs) → AllPairs (λ n m. n ≢ m) xs
 pairs-tail x xs apart i j d lt within = apart (suc i) (suc j) d (omega (arith, lt)) (omega (arith, within))
 
 -- where an arc is not one of these
-along-none : (a : ℕ) (ns : List ℕ) → 1 ≤ a → All (λ n. 1 ≤ n) ns → All (λ n. a ≢ n) ns → weight_along (only a) ns ≡ 0
+pub along-none : (a : ℕ) (ns : List ℕ) → 1 ≤ a → All (λ n. 1 ≤ n) ns → All (λ n. a ≢ n) ns → weight_along (only a) ns ≡ 0
 along-none a [] low all other = refl
 along-none a (n ∷ ns) low all other =
     let rest = along-none a ns low (All-tail (λ n. 1 ≤ n) n ns all) (All-tail (λ n. a ≢ n) n ns other) in
@@ -31,7 +31,7 @@ along-none a (n ∷ ns) low all other =
     omega (arith, rest, none, split)
 
 -- an arc stands once among these, or not at all
-along-once : (a : ℕ) (ns : List ℕ) → 1 ≤ a → All (λ n. 1 ≤ n) ns → AllPairs (λ n m. n ≢ m) ns → weight_along (only a) ns ≡ cond (list_any (λ n. n == a) ns) 1 0
+pub along-once : (a : ℕ) (ns : List ℕ) → 1 ≤ a → All (λ n. 1 ≤ n) ns → AllPairs (λ n m. n ≢ m) ns → weight_along (only a) ns ≡ cond (list_any (λ n. n == a) ns) 1 0
 along-once a [] low all apart = refl
 along-once a (n ∷ ns) low all apart =
     let split = sum_by-cons (λ (m : ℕ). only a (m - 1)) n ns in
@@ -48,15 +48,15 @@ along-once a (n ∷ ns) low all apart =
     rw (ne_eqb n a other) (omega (arith, split, rest, none)))
     (cases_eq n a)
 
-scaled : (times : ℕ) (b : Bool) → times * cond b 1 0 ≡ cond b times 0
+pub scaled : (times : ℕ) (b : Bool) → times * cond b 1 0 ≡ cond b times 0
 scaled times true = omega arith
 scaled times false = omega arith
 
-run-once : (g : List TypeValue) (a : ℕ) (run : PathRun) → IsFlowGraph g → 1 ≤ a → IsRun g run → run.times * weight_along (only a) (circuit_of g run) ≡ cond (goes_over g a run) run.times 0
+pub run-once : (g : List TypeValue) (a : ℕ) (run : PathRun) → IsFlowGraph g → 1 ≤ a → IsRun g run → run.times * weight_along (only a) (circuit_of g run) ≡ cond (goes_over g a run) run.times 0
 run-once g a run is low one =
     ap (λ (n : ℕ). run.times * n) (along-once a (circuit_of g run) low (λ k d within. (circuit-within g run is one k d within).0) (circuit-apart g run is one)) ∙ scaled run.times (goes_over g a run)
 
-runs-once : (g : List TypeValue) (a : ℕ) (runs : List PathRun) → IsFlowGraph g → 1 ≤ a → All (IsRun g) runs → runs_weight g (only a) runs ≡ times_over g runs a
+pub runs-once : (g : List TypeValue) (a : ℕ) (runs : List PathRun) → IsFlowGraph g → 1 ≤ a → All (IsRun g) runs → runs_weight g (only a) runs ≡ times_over g runs a
 runs-once g a [] is low all = refl
 runs-once g a (run ∷ runs) is low all =
     let rest = runs-once g a runs is low (All-tail (IsRun g) run runs all) in

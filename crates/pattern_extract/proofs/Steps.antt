@@ -43,7 +43,7 @@ pub one-some : (b : Bool) → 0 < cond {A = ℕ} b 1 0 → b ≡ true
 one-some true h = refl
 one-some false h = absurd (omega (arith, h))
 
-out-on : (g : List TypeValue) (t v : ℕ) (kind : ArcKind) → v ≢ (flow_type g t).nodes → goes_out g t v kind ≡ true → goes_on t v kind ≡ true
+pub out-on : (g : List TypeValue) (t v : ℕ) (kind : ArcKind) → v ≢ (flow_type g t).nodes → goes_out g t v kind ≡ true → goes_on t v kind ≡ true
 out-on g t v (Bin s) inner out =
     let both = and_parts (s == t) ((flow_type g s).nodes == v) out in
     let own : s ≡ t = eqb-true s t both.0 in
@@ -106,7 +106,7 @@ way-up g left t node k way is =
     let tail = from.tail in
     (omega (arith, up.1, head, tail), omega (arith, up.2, head))
 
-route-more : (g : List TypeValue) (left : List ℕ) (t node k : ℕ) (arcs : List ℕ) (way : IsWayOn (numbered g) left t node k) → IsRoute g t 1 node arcs → IsRoute g t 1 (head_of way.kind) (arcs ++ (k + 1) ∷ [])
+pub route-more : (g : List TypeValue) (left : List ℕ) (t node k : ℕ) (arcs : List ℕ) (way : IsWayOn (numbered g) left t node k) → IsRoute g t 1 node arcs → IsRoute g t 1 (head_of way.kind) (arcs ++ (k + 1) ∷ [])
 route-more g left t node k arcs way route =
     let from = arc_from g t node k way.kind way.there way.goes in
     let arc : TypeArc = get_or (flow_type g t).arcs from.at nothing in
@@ -118,7 +118,7 @@ route-more g left t node k arcs way route =
       numbers-append g t arcs ((k + 1) ∷ []) route.0 (arc ∷ []) route.2 (number, tt),
     )
 
-any-more : (a : ℕ) (ns : List ℕ) (n : ℕ) → list_any (λ m. m == a) (ns ++ n ∷ []) ≡ (list_any (λ m. m == a) ns || (n == a))
+pub any-more : (a : ℕ) (ns : List ℕ) (n : ℕ) → list_any (λ m. m == a) (ns ++ n ∷ []) ≡ (list_any (λ m. m == a) ns || (n == a))
 any-more a [] n = by (n == a)
   where
     by : (b : Bool) → (b || false) ≡ b
@@ -130,11 +130,11 @@ any-more a (m ∷ ns) n = by (m == a) (any-more a ns n)
     by true h = refl
     by false h = h
 
-or-right : (a b : Bool) → b ≡ true → (a || b) ≡ true
+pub or-right : (a b : Bool) → b ≡ true → (a || b) ≡ true
 or-right true b h = refl
 or-right false b h = h
 
-either-least : (a b c : ℕ) → c ≡ min a b → (c ≡ a) ⊎ (c ≡ b)
+pub either-least : (a b c : ℕ) → c ≡ min a b → (c ≡ a) ⊎ (c ≡ b)
 either-least a b c h = grind arith
 
 -- at the start nothing would be left on the bin arc

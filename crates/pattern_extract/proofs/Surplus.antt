@@ -27,16 +27,16 @@ use Rattle.flow_graph.specs.Laws.{IsKindAt, is_bin, is_arc}
 use Rattle.flow_graph.proofs.ArcKinds.{among_list}
 use Rattle.pattern_extract.proofs.Places.{place_weight, one_if, kind_there}
 
-limited-most : (n : ℕ) (limit : Option ℕ) → limited n limit ≤ n
+pub limited-most : (n : ℕ) (limit : Option ℕ) → limited n limit ≤ n
 limited-most n None = omega arith
 limited-most n (Some q) = omega arith
 
-upper-most : (I : InstanceValue) (kind : ArcKind) → upper_of I kind ≤ units_of I
+pub upper-most : (I : InstanceValue) (kind : ArcKind) → upper_of I kind ≤ units_of I
 upper-most I (Bin t) = limited-most (units_of I) (type_at I t).limit
 upper-most I (Loss t tail head) = omega arith
 upper-most I (Piece t tail head item form) = omega arith
 
-units-small : (I : InstanceValue) → IsInstance I → units_of I ≤ MAX_UNITS
+pub units-small : (I : InstanceValue) → IsInstance I → units_of I ≤ MAX_UNITS
 units-small I is =
     let most = sum_by-le (λ (x : Item). x.demand) MAX_DEMAND I.items (λ k d within. (is.items k d within).demand) in
     let few : length I.items * MAX_DEMAND ≤ MAX_ITEMS * MAX_DEMAND = mul-le-mul_right MAX_DEMAND is.item_count in
@@ -63,7 +63,7 @@ value-small I g values is flow k =
     (cases_lt k (length (numbered g)))
 
 -- a sum of small values
-weigh-most : (m : ℕ) (f : ℕ → ℕ) (xs : List ℕ) → ((k : ℕ) → f k ≤ 1) → ((k : ℕ) → get_or xs k 0 ≤ m) → weigh f xs ≤ length xs * m
+pub weigh-most : (m : ℕ) (f : ℕ → ℕ) (xs : List ℕ) → ((k : ℕ) → f k ≤ 1) → ((k : ℕ) → get_or xs k 0 ≤ m) → weigh f xs ≤ length xs * m
 weigh-most m f [] one small = omega arith
 weigh-most m f (x ∷ xs) one small =
     let rest : weigh (λ k. f (suc k)) xs ≤ length xs * m = weigh-most m (λ k. f (suc k)) xs (λ k. one (suc k)) (λ k. small (suc k)) in
@@ -73,11 +73,11 @@ weigh-most m f (x ∷ xs) one small =
     let long : suc (length xs) * m ≡ (1 + length xs) * m = ap (λ (n : ℕ). n * m) (omega arith) in
     omega (arith, rest, first, times, split, long)
 
-one-most : (b : Bool) → cond {A = ℕ} b 1 0 ≤ 1
+pub one-most : (b : Bool) → cond {A = ℕ} b 1 0 ≤ 1
 one-most true = omega arith
 one-most false = omega arith
 
-place-most : (test : ArcKind → Bool) (kinds : List ArcKind) (k : ℕ) → get_or (map (one_if test) kinds) k 0 ≤ 1
+pub place-most : (test : ArcKind → Bool) (kinds : List ArcKind) (k : ℕ) → get_or (map (one_if test) kinds) k 0 ≤ 1
 place-most test [] k = omega arith
 place-most test (kind ∷ kinds) zero = one-most (test kind)
 place-most test (kind ∷ kinds) (suc k) = place-most test kinds k
@@ -93,11 +93,11 @@ total-small I g values test is graph flow =
     omega (arith, same, most, bound)
 
 -- the arcs carry items that exist
-either_names : (m : ℕ) (b : Bool) (t tail head item form : ℕ) → ((item ≡ 0 → ⊥) → IsAmong item m) → (b ≡ (item == 0)) → NamesItem m (cond b (Loss t tail head) (Piece t tail head item form))
+pub either_names : (m : ℕ) (b : Bool) (t tail head item form : ℕ) → ((item ≡ 0 → ⊥) → IsAmong item m) → (b ≡ (item == 0)) → NamesItem m (cond b (Loss t tail head) (Piece t tail head item form))
 either_names m true t tail head item form some is = tt
 either_names m false t tail head item form some is = some (λ e. let bad : false ≡ true = is ∙ eq-eqb item 0 e in cc)
 
-item-named : (I : InstanceValue) (g : List TypeValue) (k : ℕ) (kind : ArcKind) → GraphOf I g → IsKindAt g (suc k) kind → NamesItem (length I.items) kind
+pub item-named : (I : InstanceValue) (g : List TypeValue) (k : ℕ) (kind : ArcKind) → GraphOf I g → IsKindAt g (suc k) kind → NamesItem (length I.items) kind
 item-named I g k kind of (is_bin t among place same) = subst (NamesItem (length I.items)) (sym same) tt
 item-named I g k kind of (is_arc t among j e at place same) =
     let own = of.exists (t - 1) (record { nodes = 1; arcs = [] }) (omega (arith, among.0, among.1)) in

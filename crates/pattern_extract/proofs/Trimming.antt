@@ -11,17 +11,17 @@ use Rattle.packing_laws.specs.Packings.{Content, count_of_item}
 use Rattle.pattern_extract.specs.Trims.{held, surplus_at, refilled, IsReduced, IsUsedBin, IsLean, AreParts, AreTrimmed, IsTrimmedOn, MeetDemands}
 use Rattle.pattern_extract.proofs.Parts.{parts-own, parts-done, parts-split}
 
-all-front : {X : Type 0} (P : X → Type 0) (xs : List X) (x : X) → All P (xs ++ x ∷ []) → All P xs
+pub all-front : {X : Type 0} (P : X → Type 0) (xs : List X) (x : X) → All P (xs ++ x ∷ []) → All P xs
 all-front P xs x all k d within =
     let long : length (xs ++ x ∷ []) ≡ length xs + 1 = length_push xs x in
     subst P (get_or_append_left xs (x ∷ []) d k within) (all k d (omega (arith, within, long)))
 
-all-last : {X : Type 0} (P : X → Type 0) (xs : List X) (x : X) → All P (xs ++ x ∷ []) → P x
+pub all-last : {X : Type 0} (P : X → Type 0) (xs : List X) (x : X) → All P (xs ++ x ∷ []) → P x
 all-last P xs x all =
     let long : length (xs ++ x ∷ []) ≡ length xs + 1 = length_push xs x in
     subst P (get_or_push xs x x (length xs) refl) (all (length xs) x (omega (arith, long)))
 
-lean-still : (before after : List ℕ) (done : List Bin) → ((k : ℕ) → get_or after k 0 ≤ get_or before k 0) → All (IsLean before) done → All (IsLean after) done
+pub lean-still : (before after : List ℕ) (done : List Bin) → ((k : ℕ) → get_or after k 0 ≤ get_or before k 0) → All (IsLean before) done → All (IsLean after) done
 lean-still before after done falls lean = All-weaker (IsLean before) (IsLean after) (λ b own. λ k d within. let none = own k d within in let fall = falls ((get_or b.counts k d).item - 1) in omega (arith, none, fall)) done lean
 
 module _ (I : InstanceValue) (given pending done : List Bin) (before after : List ℕ) (b : Bin) (kept : Content) (size : length after ≡ length before) (reduced : IsReduced b.times b.counts kept before after) (trimmed : AreTrimmed I given (pending ++ b ∷ []) done before) where
@@ -113,7 +113,7 @@ trimmed-none I bins surplus size each units = record {
 }
 
 -- where something is surplus of an item, lean bins do not hold it
-lean-content : (surplus : List ℕ) (i : ℕ) (c : Content) → 0 < surplus_at surplus i → All (λ n. surplus_at surplus n.item ≡ 0) c → count_of_item i c ≡ 0
+pub lean-content : (surplus : List ℕ) (i : ℕ) (c : Content) → 0 < surplus_at surplus i → All (λ n. surplus_at surplus n.item ≡ 0) c → count_of_item i c ≡ 0
 lean-content surplus i [] some lean = refl
 lean-content surplus i (n ∷ c) some lean =
     let rest = lean-content surplus i c some (All-tail (λ n. surplus_at surplus n.item ≡ 0) n c lean) in
@@ -122,7 +122,7 @@ lean-content surplus i (n ∷ c) some lean =
     let split = sum_by-cons (λ (m : Count). cond (m.item == i) m.count 0) n c in
     omega (arith, rest, none, split)
 
-lean-held : (surplus : List ℕ) (i : ℕ) (bins : List Bin) → 0 < surplus_at surplus i → All (IsLean surplus) bins → held i bins ≡ 0
+pub lean-held : (surplus : List ℕ) (i : ℕ) (bins : List Bin) → 0 < surplus_at surplus i → All (IsLean surplus) bins → held i bins ≡ 0
 lean-held surplus i [] some lean = refl
 lean-held surplus i (b ∷ bins) some lean =
     let rest = lean-held surplus i bins some (All-tail (IsLean surplus) b bins lean) in

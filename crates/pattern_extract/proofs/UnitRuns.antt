@@ -24,7 +24,7 @@ pub record AreUnitRuns (g : List TypeValue) (values : List ℕ) (runs : List Pat
   pub once : All (λ run. run.times ≡ 1) runs
 
 -- a walk goes on to the target
-walk-on : (g : List TypeValue) (left : List ℕ) (t fuel node times : ℕ) (arcs : List ℕ) → IsFlowGraph g → length left ≡ length (numbered g) → AreConserved g left → IsAmong t (length g) → (flow_type g t).nodes ≤ node + fuel → IsWalked g left t node times arcs → (more : ℕ) × (all : List ℕ) × IsWalked g left t (flow_type g t).nodes more all
+pub walk-on : (g : List TypeValue) (left : List ℕ) (t fuel node times : ℕ) (arcs : List ℕ) → IsFlowGraph g → length left ≡ length (numbered g) → AreConserved g left → IsAmong t (length g) → (flow_type g t).nodes ≤ node + fuel → IsWalked g left t node times arcs → (more : ℕ) × (all : List ℕ) × IsWalked g left t (flow_type g t).nodes more all
 walk-on g left t zero node times arcs is size conserved among near walked =
     let high = walked.high in
     let same : node ≡ (flow_type g t).nodes = omega (arith, near, high) in
@@ -42,7 +42,7 @@ walk-on g left t (suc fuel) node times arcs is size conserved among near walked 
     (cases_eq node (flow_type g t).nodes)
 
 -- a walk that is used once
-walk-once : (g : List TypeValue) (left : List ℕ) (t node times : ℕ) (arcs : List ℕ) → IsWalked g left t node times arcs → IsWalked g left t node 1 arcs
+pub walk-once : (g : List TypeValue) (left : List ℕ) (t node times : ℕ) (arcs : List ℕ) → IsWalked g left t node times arcs → IsWalked g left t node 1 arcs
 walk-once g left t node times arcs walked =
     let once = walked.once in
     let bin = walked.bin in
@@ -57,7 +57,7 @@ walk-once g left t node times arcs walked =
     }
 
 -- a unit is taken off each of the first n of these arcs
-taken-to : (old : List ℕ) (arcs : List ℕ) → AllPairs (λ b c. b ≢ c) arcs → All (λ b. (1 ≤ b) × (b ≤ length old) × (1 ≤ get_or old (b - 1) 0)) arcs → (n : ℕ) → n ≤ length arcs → (new : List ℕ) × (length new ≡ length old) × IsTakenSoFar old new 1 n arcs
+pub taken-to : (old : List ℕ) (arcs : List ℕ) → AllPairs (λ b c. b ≢ c) arcs → All (λ b. (1 ≤ b) × (b ≤ length old) × (1 ≤ get_or old (b - 1) 0)) arcs → (n : ℕ) → n ≤ length arcs → (new : List ℕ) × (length new ≡ length old) × IsTakenSoFar old new 1 n arcs
 taken-to old arcs apart there zero low = (old, refl, taken-none old 1 arcs)
 taken-to old arcs apart there (suc n) low =
     let before = taken-to old arcs apart there n (omega (arith, low)) in
@@ -69,7 +69,7 @@ taken-to old arcs apart there (suc n) low =
     (next, length-set new (a - 1) (get_or new (a - 1) 0 - 1) ∙ before.1, subst (λ (k : ℕ). IsTakenSoFar old next 1 k arcs) place more)
 
 -- a run that is used once, and what is left when it is taken off
-record TakesUnit (g : List TypeValue) (left : List ℕ) : Type 0 where
+pub record TakesUnit (g : List TypeValue) (left : List ℕ) : Type 0 where
   run : PathRun
   rest : List ℕ
   is : IsRun g run
@@ -77,7 +77,7 @@ record TakesUnit (g : List TypeValue) (left : List ℕ) : Type 0 where
   size : length rest ≡ length left
   taken : IsTaken left rest run.times (circuit_of g run)
 
-takes-unit : (g : List TypeValue) (left : List ℕ) (t : ℕ) → IsFlowGraph g → length left ≡ length (numbered g) → AreConserved g left → IsAmong t (length g) → 0 < get_or left (first_arc g t - 1) 0 → TakesUnit g left
+pub takes-unit : (g : List TypeValue) (left : List ℕ) (t : ℕ) → IsFlowGraph g → length left ≡ length (numbered g) → AreConserved g left → IsAmong t (length g) → 0 < get_or left (first_arc g t - 1) 0 → TakesUnit g left
 takes-unit g left t is size conserved among some =
     let start = walk-start g left t is among some in
     let walk = walk-on g left t (flow_type g t).nodes 1 (get_or left (first_arc g t - 1) 0) [] is size conserved among (omega arith) start in
@@ -100,7 +100,7 @@ takes-unit g left t is size conserved among some =
     }
 
 -- a type of which something is left on the bin arc, if there is one
-some-bin : (g : List TypeValue) (left : List ℕ) (n : ℕ) → n ≤ length g → ((t : ℕ) × IsAmong t (length g) × (0 < get_or left (first_arc g t - 1) 0)) ⊎ ((t : ℕ) → IsAmong t n → get_or left (first_arc g t - 1) 0 ≡ 0)
+pub some-bin : (g : List TypeValue) (left : List ℕ) (n : ℕ) → n ≤ length g → ((t : ℕ) × IsAmong t (length g) × (0 < get_or left (first_arc g t - 1) 0)) ⊎ ((t : ℕ) → IsAmong t n → get_or left (first_arc g t - 1) 0 ≡ 0)
 some-bin g left zero low = inr (none_among (λ t. get_or left (first_arc g t - 1) 0 ≡ 0))
 some-bin g left (suc n) low =
     ⊎_elim
@@ -137,7 +137,7 @@ module _ (g : List TypeValue) (left rest : List ℕ) (run : PathRun) (runs : Lis
       let single : run.times * weight_along (λ k. 1) (circuit_of g run) ≡ 1 * weight_along (λ k. 1) (circuit_of g run) = ap (λ (n : ℕ). n * weight_along (λ k. 1) (circuit_of g run)) once in
       omega (arith, all, split, single)
 
-unit-none : (g : List TypeValue) (left : List ℕ) → IsFlowGraph g → length left ≡ length (numbered g) → AreConserved g left → ((t : ℕ) → IsAmong t (length g) → get_or left (first_arc g t - 1) 0 ≡ 0) → AreUnitRuns g left []
+pub unit-none : (g : List TypeValue) (left : List ℕ) → IsFlowGraph g → length left ≡ length (numbered g) → AreConserved g left → ((t : ℕ) → IsAmong t (length g) → get_or left (first_arc g t - 1) 0 ≡ 0) → AreUnitRuns g left []
 unit-none g left is size conserved bins = record {
   hold = record {
     each = All-nil (IsRun g);

@@ -5,7 +5,7 @@ use Rattle.flow_graph.specs.declared.parts.ArcKind.{ArcKind}
 use Rattle.flow_model.specs.Flows.{weigh_arcs}
 use Rattle.pattern_extract.specs.inner.Walks.{weigh}
 
-part : (a x y z : ℕ) → z + x ≡ y → a * y ≡ a * z + x * a
+pub part : (a x y z : ℕ) → z + x ≡ y → a * y ≡ a * z + x * a
 part a x y z e = rw (sym e) (omega arith)
 
 -- what is taken off one value

@@ -15,3 +15,4 @@ pub use extracts::{ExtractFault, extract};
 pub use laws::{examples_come_out, flows_are_packings};
 pub use paths::paths_of;
 pub use runs::PathRun;
+pub use trims::trim;

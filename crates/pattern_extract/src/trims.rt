@@ -10,7 +10,7 @@ use packing_laws::{Bin, Count, Counts, Instance};
 use std::alloc::Global;
 
 /// The bins without what is surplus in them, where `surplus` tells how much that is of each item.
-pub(crate) fn trim(
+pub fn trim(
     alloc: Global,
     instance: &Instance,
     bins: Vec<Bin>,
