@@ -18,13 +18,10 @@ use Rattle.joint_graph.specs.Ways.{IsWayTo, HaveSameWeights}
 use Rattle.joint_graph.specs.inner.Passes.{AreWaysTo, weight_at}
 use Rattle.joint_graph.specs.inner.Ranks.{AreRanks}
 use Rattle.joint_graph.specs.inner.Classes.{class_at, AreNumbered, RiseAlong}
-use Rattle.joint_graph.proofs.JointPaths.{climbs-at, known-at, tail-inner, tail-node, path-begin, path-range}
+use Rattle.joint_graph.proofs.JointPaths.{before-tail, climbs-at, known-at, tail-inner, tail-node, path-begin, path-range}
 use Rattle.joint_graph.proofs.Weighing.{heaviest-one, way-arrives, at-most-cases, loss-only, carried-narrow}
 use Rattle.joint_graph.proofs.RankLemmas.{rank-same, rank-equal, rank-less, rank-onto}
 use Rattle.joint_graph.proofs.ClassLemmas.{inner-node}
-
-before-tail : (e f : GraphArc) → ArcBefore e f → e.tail ≤ f.tail
-before-tail e f h = ⊎_elim (λ lt. omega arith) (λ w. omega (arith, w.0)) h
 
 module _ (N : ℕ) (g : JointValue N) (is : IsJoint N g) where
   within-take : (i : ℕ) (f : GraphArc) → i ≤ length g.arcs → Contains (take i g.arcs) f → (k : ℕ) × (k < i) × (get_or g.arcs k f ≡ f)
@@ -87,7 +84,7 @@ module _ (N : ℕ) (g : JointValue N) (is : IsJoint N g) where
     arc-step here there brought new at at_there brought_is new_is =
         let whole : take (i + 1) g.arcs ≡ take i g.arcs ++ arc ∷ [] = take_more g.arcs i d lt ∙ (λ k. take i g.arcs ++ sym arc-is k ∷ []) in
         let before : (f : GraphArc) → Contains (take i g.arcs) f → f.tail ≤ arc.tail = λ f m. omega (arith, ap (λ (x : GraphArc). x.tail) arc-is, before-take i d f lt m) in
-        let more = brought-more g.pieces (node_count g) (take i g.arcs) arc before arc-ends labels (carried-narrow N g is arc.mark (known-at N g is arc arc-there)) are in
+        let more = brought-more g.pieces (node_count g) (take i g.arcs) arc before arc-ends labels (carried-narrow N g is arc.mark) are in
         let sum : plus (label_of labels arc.tail) (mark_weight g.pieces arc.mark) ≡ brought = (λ k. plus (sym (there-is there at_there) k) (mark_weight (sym ps_are k) arc.mark)) ∙ sym brought_is in
         let value : higher (label_of labels arc.head) (plus (label_of labels arc.tail) (mark_weight g.pieces arc.mark)) ≡ new = (λ k. higher (sym (here-is here at) k) (sum k)) ∙ sym new_is in
         subst (λ (arcs : List GraphArc). AreBrought g.pieces arcs (node_count g) (set labels (arc.head - 1) new)) (sym whole)

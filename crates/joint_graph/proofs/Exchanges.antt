@@ -8,7 +8,7 @@ use Rattle.joint_graph.specs.Joints.{JointValue, IsJoint, IsNode, IsType, target
 use Rattle.joint_graph.specs.Ways.{IsWayOn, HaveSameRooms, HaveSameWeights}
 use Rattle.joint_graph.specs.Merged.{node_into, Merges, IsImage, BecomesArc}
 use Rattle.joint_graph.proofs.JointPaths.{tail-node, head-node, target-node, source-node}
-use Rattle.joint_graph.proofs.JointImages.{same-cases, arc-from, target-into}
+use Rattle.joint_graph.proofs.ImageNodes.{same-cases, arc-from, target-into}
 
 -- a path that is at least as heavy in dimension d
 pub record IsAsHeavy {N : ℕ} (g : JointValue N) (a b d weight : ℕ) : Type 0 where
@@ -34,13 +34,13 @@ module _ (N : ℕ) (g : JointValue N) (is : IsJoint N g) (into : List ℕ) (imag
         let rooms = (merges v w inner.0 inner.1).0 same t is_type.0 is_type.1 in
         heavy-on rooms.0 v w path rooms.1 rooms.2 h)
         (λ equal. record { path = path; leads = subst (λ (a : ℕ). IsPath g.arcs a (target_at g t) path) equal h; heavy = omega arith })
-        (same-cases N g is into image im v w one two same)
+        (same-cases N g into image im v w one two same)
 
     pub path-on : (path : List GraphArc) (w : ℕ) → IsPath image.arcs w (target_at image t) path → (v : ℕ) → IsNode g v → node_into into v ≡ w → IsAsHeavy g v (target_at g t) d (weight_in image.pieces d path)
     path-on [] w h v node at =
-        exchange-on (target_at g t) v [] (target-node N g is t is_type) node (target-into N g is into image im t is_type ∙ sym h ∙ sym at) refl
+        exchange-on (target_at g t) v [] (target-node N g is t is_type) node (target-into N g into image im t is_type ∙ sym h ∙ sym at) refl
     path-on (x ∷ path) w h v node at =
-        let from = arc-from N g is into image im x h.0 in
+        let from = arc-from N g into image im x h.0 in
         let e = from.0 in
         let b = from.2 in
         let rest = path-on path x.head h.2 e.head (head-node N g is e from.1) (sym b.head) in
@@ -57,14 +57,14 @@ module _ (N : ℕ) (g : JointValue N) (is : IsJoint N g) (into : List ℕ) (imag
         let other = weights.2.each d in
         record { path = other.path; leads = other.leads; heavy = omega (arith, other.weighs, (weights.1.each d).most path h) })
         (λ equal. record { path = path; leads = subst (λ (b : ℕ). IsPath g.arcs 1 b path) equal h; heavy = omega arith })
-        (same-cases N g is into image im v w one two same)
+        (same-cases N g into image im v w one two same)
 
     pub path-to : (path : List GraphArc) (a w : ℕ) → IsPath image.arcs a w path → (u : ℕ) (front : List GraphArc) → IsNode g u → node_into into u ≡ a → IsPath g.arcs 1 u front → (v : ℕ) → IsNode g v → node_into into v ≡ w → IsAsHeavy g 1 v d (weight_in g.pieces d front + weight_in image.pieces d path)
     path-to [] a w h u front node at leads v end ends =
         let found = exchange-to u v front node end (at ∙ h ∙ sym ends) leads in
         record { path = found.path; leads = found.leads; heavy = omega (arith, found.heavy) }
     path-to (x ∷ path) a w h u front node at leads v end ends =
-        let from = arc-from N g is into image im x h.0 in
+        let from = arc-from N g into image im x h.0 in
         let e = from.0 in
         let b = from.2 in
         let tail = tail-node N g is e from.1 in
@@ -81,5 +81,5 @@ module _ (N : ℕ) (g : JointValue N) (is : IsJoint N g) (into : List ℕ) (imag
 
   pub fits-to : Merges g into (HaveSameWeights g) → (t : ℕ) → IsType g.caps t → (path : List GraphArc) → IsPath image.arcs 1 (target_at image t) path → (d : ℕ) → weight_in image.pieces d path ≤ get_or (cap_at g.caps t) d 0
   fits-to merges t is_type path h d =
-      let found = path-to d merges path 1 (target_at image t) h 1 [] (source-node N g is) im.merging.first refl (target_at g t) (target-node N g is t is_type) (target-into N g is into image im t is_type) in
+      let found = path-to d merges path 1 (target_at image t) h 1 [] (source-node N g is) im.merging.first refl (target_at g t) (target-node N g is t is_type) (target-into N g into image im t is_type) in
       omega (arith, found.heavy, is.fits t is_type found.path found.leads d)

@@ -97,6 +97,15 @@ module _ {N : ℕ} (pieces : List (Piece N)) (caps : List (List ℕ)) where
   step-one (Carries p) s t u one two = one.4 ∙ sym two.4
   step-one Loss s t u one two = one.1 ∙ sym two.1
 
+  -- what follows by a mark is where a step leads
+  pub follows-step : (m : Mark) (s : State N) (o : Option (State N)) (t : State N) → Follows pieces caps s m o → o ≡ Some t → Step pieces caps s m t
+  follows-step m s None t f e = absurd (let bad : None ≡ Some t = e in cc)
+  follows-step m s (Some y) t f e = subst (λ (z : State N). Step pieces caps s m z) (ap (got y) e) f
+
+  pub step-follows : (m : Mark) (s : State N) (o : Option (State N)) (t : State N) → Follows pieces caps s m o → Step pieces caps s m t → o ≡ Some t
+  step-follows m s None t f step = absurd (f t step)
+  step-follows m s (Some y) t f step = ap Some (step-one m s y t f step)
+
   -- where all states that are found are followed, they are all that are reached
   found-reached : (found : List (State N)) → IsFound pieces caps found (length found) → (n : ℕ) (s : State N) → ReachedIn pieces caps n s → Contains found s
   found-reached found is zero s h = subst (λ (z : State N). Contains found z) (sym h) is.first
@@ -145,13 +154,8 @@ module _ {N : ℕ} (pieces : List (Piece N)) (caps : List (List ℕ)) where
       reached-here = is.reached s (i, lt, sym at)
 
       follow : (m : Mark) (o : Option (State N)) (x : State N) → Follows pieces caps s m o → o ≡ Some x → IsReached pieces caps x
-      follow m None x f e = absurd (let bad : None ≡ Some x = e in cc)
-      follow m (Some y) x f e = reached-step s x m reached-here (subst (λ (z : State N). Step pieces caps s m z) (ap (got y) e) f)
-
-      step-there : (m : Mark) (o : Option (State N)) (t : State N) → Follows pieces caps s m o → Step pieces caps s m t → o ≡ Some t
-      step-there m None t f step = absurd (f t step)
-      step-there m (Some y) t f step = ap Some (step-one m s y t f step)
+      follow m o x f e = reached-step s x m reached-here (follows-step m s o x f e)
 
       next : (m : Mark) (t : State N) → Step pieces caps s m t → Contains new t
-      next (Carries p) t step = adds-keeps mid new skipped two t (one.here t (step-there (Carries s.piece) taken t take (refl, step.1, step.2, step.3, step.4)))
-      next Loss t step = two.here t (step-there Loss skipped t skip step)
+      next (Carries p) t step = adds-keeps mid new skipped two t (one.here t (step-follows (Carries s.piece) s taken t take (refl, step.1, step.2, step.3, step.4)))
+      next Loss t step = two.here t (step-follows Loss s skipped t skip step)

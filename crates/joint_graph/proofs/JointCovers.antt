@@ -4,7 +4,8 @@ use Rattle.label_graph.specs.Graph.{IsPath}
 use Rattle.joint_graph.specs.Joints.{JointValue, IsJoint, IsType, cap_at, target_at}
 use Rattle.joint_graph.specs.Merged.{node_into, IsImage}
 use Rattle.joint_graph.specs.JointLaws.{JointPathsFit, JointPathsCover, HasPathOf}
-use Rattle.joint_graph.proofs.JointImages.{walk, target-into}
+use Rattle.joint_graph.proofs.ImageNodes.{target-into}
+use Rattle.joint_graph.proofs.JointImages.{walk}
 use Rattle.joint_graph.proofs.Exchanges.{fits-to}
 use Rattle.joint_graph.proofs.ChoicePaths.{choice-path}
 
@@ -13,7 +14,7 @@ image-path N g is into image im t is_type count content has =
     let like = walk N g is into image im has.path 1 (target_at g t) has.leads in
     record {
       path = like.0;
-      leads = subst (λ (b : ℕ). IsPath image.arcs 1 b like.0) (target-into N g is into image im t is_type) (subst (λ (a : ℕ). IsPath image.arcs a (node_into into (target_at g t)) like.0) im.merging.first like.1);
+      leads = subst (λ (b : ℕ). IsPath image.arcs 1 b like.0) (target-into N g into image im t is_type) (subst (λ (a : ℕ). IsPath image.arcs a (node_into into (target_at g t)) like.0) im.merging.first like.1);
       along = record { whole = has.along.whole; copies = λ p lt. like.2 (p + 1) ∙ has.along.copies p lt };
     }
 

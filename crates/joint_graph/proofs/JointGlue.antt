@@ -31,11 +31,11 @@ module _ (N : ℕ) (g : JointValue N) (is : IsJoint N g) (numbers : List ℕ) (c
 
   pub main-fits : AreClasses g (length g.caps) numbers count → FitsMerged g numbers count
   main-fits classes into image whole inner im t is_type path leads d =
-      fits-on N g is into image im (merges-same N g is numbers count classes.numbered into whole (HaveSameRooms g (length g.caps)) classes.same) t is_type path leads d
+      fits-on N g is into image im (merges-same N g numbers count classes.numbered into whole (HaveSameRooms g (length g.caps)) classes.same) t is_type path leads d
 
   pub main-made : AreClasses g (length g.caps) numbers count → (into : List ℕ) → IsInto numbers count (length g.caps) into → (image : JointValue N) → IsImage g into image → IsJointMain g image
   main-made classes into whole image im =
-      record { into = into; merges = merges-same N g is numbers count classes.numbered into whole (HaveSameRooms g (length g.caps)) classes.same; image = im }
+      record { into = into; merges = merges-same N g numbers count classes.numbered into whole (HaveSameRooms g (length g.caps)) classes.same; image = im }
 
 module _ (N : ℕ) (g : JointValue N) (is : IsJoint N g) (weights : List (List ℕ)) (to : AreWaysTo g weights) (inner_weights : List (List ℕ)) (inner_are : inner_weights ≡ take g.inner weights) (distinct : List (List ℕ)) (numbers : List ℕ) (are : AreRanks (slice_cmp nat_cmp) inner_weights distinct numbers) where
   numbered : AreNumbered g numbers (length distinct)
@@ -46,13 +46,13 @@ module _ (N : ℕ) (g : JointValue N) (is : IsJoint N g) (weights : List (List �
 
   pub final-fits : FitsMerged g numbers (length distinct)
   final-fits into image whole inner im t is_type path leads d =
-      fits-to N g is into image im (merges-same N g is numbers (length distinct) numbered into whole (HaveSameWeights g) same) t is_type path leads d
+      fits-to N g is into image im (merges-same N g numbers (length distinct) numbered into whole (HaveSameWeights g) same) t is_type path leads d
 
   pub final-made : (into : List ℕ) → IsInto numbers (length distinct) (length g.caps) into → (image : JointValue N) → IsImage g into image → IsJointFinal g image
   final-made into whole image im =
       record {
         into = into;
-        merges = merges-same N g is numbers (length distinct) numbered into whole (HaveSameWeights g) same;
-        sorted = λ v w lighter heavier a b one two before. omega (arith, into-class N g is numbers (length distinct) numbered into whole v a, into-class N g is numbers (length distinct) numbered into whole w b, ranks-sorted N g is weights to inner_weights inner_are distinct numbers are v w lighter heavier a b one two before);
+        merges = merges-same N g numbers (length distinct) numbered into whole (HaveSameWeights g) same;
+        sorted = λ v w lighter heavier a b one two before. omega (arith, into-class N g numbers (length distinct) numbered into whole v a, into-class N g numbers (length distinct) numbered into whole w b, ranks-sorted N g is weights to inner_weights inner_are distinct numbers are v w lighter heavier a b one two before);
         image = im;
       }

@@ -11,8 +11,9 @@ use Rattle.label_graph.specs.declared.parts.GraphArc.{GraphArc}
 use Rattle.label_graph.specs.Graph.{IsPath, IsKnown, weight_in, mark_copies}
 use Rattle.label_graph.specs.ImageLaws.{CarriesAs}
 use Rattle.joint_graph.specs.Joints.{JointValue, IsJoint, IsNode, IsInner, ClimbsIn, IsType, IsReachable, HasWayOn, target_at, cap_at}
-use Rattle.joint_graph.specs.Merged.{node_into, BecomesArc, IsImage}
-use Rattle.joint_graph.proofs.JointPaths.{known-at, tail-inner, head-node, target-node}
+use Rattle.joint_graph.specs.Merged.{node_into, IsImage}
+use Rattle.joint_graph.proofs.JointPaths.{known-at, tail-inner, head-node}
+use Rattle.joint_graph.proofs.ImageNodes.{types-same, target-into, into-node, comes-from, arc-from}
 
 -- a loss arc from a node to itself, or another arc
 abbrev pub LoopCases : Mark → ℕ → ℕ → Type 0
@@ -23,56 +24,6 @@ loop-cases Loss x y = ⊎_elim (λ same. inl (refl, same)) (λ ne. inr (λ h. ne
 loop-cases (Carries p) x y = inr (λ h. let bad : Carries p ≡ Loss = h.0 in cc)
 
 module _ (N : ℕ) (g : JointValue N) (is : IsJoint N g) (into : List ℕ) (image : JointValue N) (im : IsImage g into image) where
-  types-same : length image.caps ≡ length g.caps
-  types-same = ap length im.caps
-
-  -- a node that is no target, or the target of a type
-  node-cases : (v : ℕ) → IsNode g v → IsInner g v ⊎ ((t : ℕ) × IsType g.caps t × (v ≡ target_at g t))
-  node-cases v node =
-      ⊎_elim
-      (λ lt. inr (v - g.inner, (omega arith, omega (arith, node.1)), omega arith))
-      (λ ge. inl (node.0, omega arith))
-      (cases_lt g.inner v)
-
-  pub target-into : (t : ℕ) → IsType g.caps t → node_into into (target_at g t) ≡ target_at image t
-  target-into t is_type = im.merging.targets t is_type
-
-  pub into-node : (v : ℕ) → IsNode g v → IsNode image (node_into into v)
-  into-node v node =
-      ⊎_elim
-      (λ inner. (im.merging.low v inner, omega (arith, im.merging.high v inner)))
-      (λ w. (omega (arith, w.1.0, target-into w.0 w.1, ap (node_into into) w.2), omega (arith, types-same, w.1.1, target-into w.0 w.1, ap (node_into into) w.2)))
-      (node-cases v node)
-
-  -- nodes that are merged are both no targets, or the same
-  pub same-cases : (v w : ℕ) → IsNode g v → IsNode g w → node_into into v ≡ node_into into w → (IsInner g v × IsInner g w) ⊎ (v ≡ w)
-  same-cases v w one two same =
-      ⊎_elim
-      (λ a. ⊎_elim
-      (λ b. inl (a, b))
-      (λ b. absurd (omega (arith, same, im.merging.high v a, target-into b.0 b.1, ap (node_into into) b.2, b.1.0)))
-      (node-cases w two))
-      (λ a. ⊎_elim
-      (λ b. absurd (omega (arith, same, im.merging.high w b, target-into a.0 a.1, ap (node_into into) a.2, a.1.0)))
-      (λ b. inr (omega (arith, same, target-into a.0 a.1, ap (node_into into) a.2, target-into b.0 b.1, ap (node_into into) b.2, a.2, b.2)))
-      (node-cases w two))
-      (node-cases v one)
-
-  -- each node of the image is one into which a node is merged
-  pub comes-from : (w : ℕ) → IsNode image w → (v : ℕ) × IsNode g v × (node_into into v ≡ w)
-  comes-from w node =
-      ⊎_elim
-      (λ lt.
-      let is_type : IsType g.caps (w - image.inner) = (omega arith, omega (arith, node.1, types-same)) in
-      (target_at g (w - image.inner), target-node N g is (w - image.inner) is_type, omega (arith, target-into (w - image.inner) is_type)))
-      (λ ge.
-      let found = im.merging.onto w node.0 (omega arith) in
-      (found.0, (found.1.0, omega (arith, found.1.1)), found.2))
-      (cases_lt image.inner w)
-
-  pub arc-from : (x : GraphArc) → Contains image.arcs x → (e : GraphArc) × Contains g.arcs e × BecomesArc into e x
-  arc-from x m = (im.arcs x).0 m
-
   -- a path between the nodes into which the ends are merged, without the arcs that are left out
   pub walk : (path : List GraphArc) (a b : ℕ) → IsPath g.arcs a b path → (like : List GraphArc) × IsPath image.arcs (node_into into a) (node_into into b) like × CarriesAs like path
   walk [] a b h = ([], ap (node_into into) h, λ p. refl)
@@ -97,11 +48,11 @@ module _ (N : ℕ) (g : JointValue N) (is : IsJoint N g) (into : List ℕ) (imag
   module _ (rises : (e : GraphArc) → Contains g.arcs e → (node_into into e.tail ≤ node_into into e.head) × ((node_into into e.tail ≡ node_into into e.head) → e.mark ≡ Loss)) where
     image-climbs : (x : GraphArc) → Contains image.arcs x → ClimbsIn image x
     image-climbs x m =
-        let from = arc-from x m in
+        let from = arc-from N g into image im x m in
         let e = from.0 in
         let b = from.2 in
         let tail = tail-inner N g is e from.1 in
-        let head = into-node e.head (head-node N g is e from.1) in
+        let head = into-node N g into image im e.head (head-node N g is e from.1) in
         let up = rises e from.1 in
         record {
           low = omega (arith, b.tail, im.merging.low e.tail tail);
@@ -117,24 +68,24 @@ module _ (N : ℕ) (g : JointValue N) (is : IsJoint N g) (into : List ℕ) (imag
 
     image-known : (x : GraphArc) → Contains image.arcs x → IsKnown image.pieces x.mark
     image-known x m =
-        let from = arc-from x m in
+        let from = arc-from N g into image im x m in
         subst (λ (ps : List (Piece N)). IsKnown ps x.mark) (sym im.pieces) (subst (λ (k : Mark). IsKnown g.pieces k) (sym from.2.mark) (known-at N g is from.0 from.1))
 
     image-comes : (w : ℕ) → IsNode image w → IsReachable image w
     image-comes w node =
-        let v = comes-from w node in
+        let v = comes-from N g into image im w node in
         let way = is.comes v.0 v.1 in
         let like = walk way.0 1 v.0 way.1 in
         (like.0, subst (λ (b : ℕ). IsPath image.arcs 1 b like.0) v.2 (subst (λ (a : ℕ). IsPath image.arcs a (node_into into v.0) like.0) im.merging.first like.1))
 
     image-goes : (w : ℕ) → IsNode image w → HasWayOn image w
     image-goes w node =
-        let v = comes-from w node in
+        let v = comes-from N g into image im w node in
         let way = is.goes v.0 v.1 in
         let like = walk way.2.0 v.0 (target_at g way.0) way.2.1 in (
           way.0,
-          (way.1.0, omega (arith, way.1.1, types-same)),
-          (like.0, subst (λ (a : ℕ). IsPath image.arcs a (target_at image way.0) like.0) v.2 (subst (λ (b : ℕ). IsPath image.arcs (node_into into v.0) b like.0) (target-into way.0 way.1) like.1)),
+          (way.1.0, omega (arith, way.1.1, (types-same N g into image im))),
+          (like.0, subst (λ (a : ℕ). IsPath image.arcs a (target_at image way.0) like.0) v.2 (subst (λ (b : ℕ). IsPath image.arcs (node_into into v.0) b like.0) (target-into N g into image im way.0 way.1) like.1)),
         )
 
     pub image-is-joint : image.inner ≤ g.inner → ((t : ℕ) → IsType g.caps t → (path : List GraphArc) → IsPath image.arcs 1 (target_at image t) path → (d : ℕ) → weight_in image.pieces d path ≤ slice_index (cap_at g.caps t) d) → IsJoint N image
@@ -143,8 +94,8 @@ module _ (N : ℕ) (g : JointValue N) (is : IsJoint N g) (into : List ℕ) (imag
         record {
           small = is.small;
           source = omega (arith, im.merging.low 1 inner, im.merging.high 1 inner);
-          types = omega (arith, types-same, is.types);
-          few_types = omega (arith, types-same, is.few_types);
+          types = omega (arith, (types-same N g into image im), is.types);
+          few_types = omega (arith, (types-same N g into image im), is.few_types);
           few_nodes = omega (arith, fewer, is.few_nodes);
           caps_ranged = subst (λ (cs : List (List ℕ)). All (λ (l : List ℕ). IsInRange l) cs) (sym im.caps) is.caps_ranged;
           pieces_sized = subst (λ (ps : List (Piece N)). All (λ (q : Piece N). length q.weight ≡ N) ps) (sym im.pieces) is.pieces_sized;

@@ -1,11 +1,15 @@
 -- Paths of joint graphs: where they end, and what they weigh.
-use Rattle.std.proofs.Common.{ℕ, ◌-◌, ◌^◌, ◌<◌, ◌≤◌, List, [], ◌∷◌, ◌++◌, arith}
+use Rattle.std.proofs.Common.{ℕ, ◌-◌, ◌^◌, ◌<◌, ◌≤◌, List, [], ◌∷◌, ◌++◌, ⊎_elim, arith}
 use Rattle.std.specs.Prelude.{Contains}
 use Rattle.std.proofs.lemmas.List.Elements.{All-contains}
 use Rattle.label_graph.specs.declared.parts.GraphArc.{GraphArc}
-use Rattle.label_graph.specs.Graph.{IsPath, IsKnown, weight_in}
+use Rattle.label_graph.specs.Graph.{ArcBefore, IsPath, IsKnown, weight_in}
 use Rattle.label_graph.proofs.Paths.{IsPath-append, weight-append}
 use Rattle.joint_graph.specs.Joints.{JointValue, IsJoint, IsNode, IsInner, ClimbsIn, IsType, target_at}
+
+-- arcs in order stand by their tails
+pub before-tail : (e f : GraphArc) → ArcBefore e f → e.tail ≤ f.tail
+before-tail e f h = ⊎_elim (λ lt. omega arith) (λ w. omega (arith, w.0)) h
 
 module _ (N : ℕ) (g : JointValue N) (is : IsJoint N g) where
   pub climbs-at : (e : GraphArc) → Contains g.arcs e → ClimbsIn g e

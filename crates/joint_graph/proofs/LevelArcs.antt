@@ -16,7 +16,7 @@ use Rattle.joint_graph.specs.Joints.{cap_at}
 use Rattle.joint_graph.specs.JointLevels.{Step, IsStepArc, IsEndArc, state_cmp}
 use Rattle.joint_graph.specs.inner.Pushes.{Follows, Appends, AreStates, IsArcTo, IsEndTo, IsEndBelow, IsArcFrom, AreArcsBefore}
 use Rattle.joint_graph.proofs.StateOrders.{state-total}
-use Rattle.joint_graph.proofs.FoundStates.{step-one, got, reached-step}
+use Rattle.joint_graph.proofs.FoundStates.{step-one, follows-step, reached-step}
 use Rattle.joint_graph.proofs.RankLemmas.{number-one}
 
 pub appends-one : (old new : List GraphArc) (a : GraphArc) (Kind : GraphArc → Type 0) → new ≡ old ++ a ∷ [] → Kind a → ((e : GraphArc) → Kind e → a ≡ e) → Appends old new Kind
@@ -200,10 +200,8 @@ module _ {N : ℕ} (pieces : List (Piece N)) (caps : List (List ℕ)) (states : 
 
 -- what follows a state stands among the states
 pub followed-there : {N : ℕ} (pieces : List (Piece N)) (caps : List (List ℕ)) (states : List (State N)) → AreStates pieces caps states → (i : ℕ) (s : State N) → i < length states → s ≡ get_or states i s → (m : Mark) (o : Option (State N)) → Follows pieces caps s m o → (t : State N) → o ≡ Some t → Contains states t
-followed-there pieces caps states are i s lt at m None follows t e = absurd (let bad : None ≡ Some t = e in cc)
-followed-there {N} pieces caps states are i s lt at m (Some u) follows t e =
-    let step : Step pieces caps s m t = subst (λ (z : State N). Step pieces caps s m z) (ap (got u) e) follows in
-    (are.reached t).1 (reached-step pieces caps s t m ((are.reached s).0 (i, lt, sym at)) step)
+followed-there pieces caps states are i s lt at m o follows t e =
+    (are.reached t).1 (reached-step pieces caps s t m ((are.reached s).0 (i, lt, sym at)) (follows-step pieces caps m s o t follows e))
 
 -- the arcs from all states
 pub arcs-all : {N : ℕ} (pieces : List (Piece N)) (caps : List (List ℕ)) (states : List (State N)) (arcs sorted : List GraphArc) → AreArcsBefore pieces caps states (length states) arcs → ((e : GraphArc) → Contains sorted e ↔ Contains arcs e) → (e : GraphArc) → Contains sorted e ↔ (IsStepArc pieces caps states e ⊎ IsEndArc pieces caps states e)

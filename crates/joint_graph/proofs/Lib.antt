@@ -1,6 +1,7 @@
 pub mod JointPaths
 pub mod WaysOn
 pub mod RankLemmas
+pub mod ImageNodes
 pub mod JointImages
 pub mod Exchanges
 pub mod StateOrders
@@ -17,3 +18,15 @@ pub mod WayPasses
 pub mod JointGlue
 pub mod FitsLemmas
 pub mod TakeLemmas
+pub mod Tables
+pub mod LevelsOne
+pub mod Renumbered
+pub mod MainsOne
+pub mod LikePaths
+pub mod FinalsOne
+pub mod Decisions
+pub mod StatesExist
+pub mod LevelsExist
+pub mod WaysExist
+pub mod PartsExist
+pub mod MainsExist

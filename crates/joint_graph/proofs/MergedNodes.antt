@@ -103,26 +103,51 @@ into-more numbers count types old new n is pushed into =
           (cases_lt t types);
     })
 
-module _ (N : ℕ) (g : JointValue N) (is : IsJoint N g) (numbers : List ℕ) (count : ℕ) (are : AreNumbered g numbers count) (into : List ℕ) (whole : IsInto numbers count (length g.caps) into) where
+module _ (N : ℕ) (g : JointValue N) (numbers : List ℕ) (count : ℕ) (are : AreNumbered g numbers count) (into : List ℕ) (whole : IsInto numbers count (length g.caps) into) where
   pub into-class : (v : ℕ) → IsInner g v → node_into into v ≡ class_at numbers v
   into-class v inner = whole.front (v - 1) (omega (arith, inner.0, inner.1, are.sized))
 
-  into-target : (t : ℕ) → IsType g.caps t → node_into into (target_at g t) ≡ count + t
+  pub into-target : (t : ℕ) → IsType g.caps t → node_into into (target_at g t) ≡ count + t
   into-target t is_type =
       let index : g.inner + t - 1 ≡ length numbers + (t - 1) = omega (arith, are.sized, is_type.0) in
       let back = whole.back (t - 1) (omega (arith, is_type.0, is_type.1)) in
       ap (λ (k : ℕ). get_or into k 0) index ∙ omega (arith, back, is_type.0)
 
-  pub merging : RiseAlong g numbers → IsMerging g into count
-  merging rise =
+  pub merging-by : IsInner g 1 → class_at numbers 1 ≡ 1 → IsMerging g into count
+  merging-by first one =
       record {
         count = omega (arith, whole.sized, are.sized);
-        first = into-class 1 (omega arith, is.source) ∙ first-class;
+        first = into-class 1 first ∙ one;
         low = λ v inner. omega (arith, into-class v inner, are.low v inner);
         high = λ v inner. omega (arith, into-class v inner, are.high v inner);
         targets = into-target;
         onto = λ w low high. let found = are.onto w low high in (found.0, found.1, into-class found.0 found.1 ∙ found.2);
       }
+
+  pub merges-same : (Same : ℕ → ℕ → Type 0) → ((v w : ℕ) → IsInner g v → IsInner g w → (class_at numbers v ≡ class_at numbers w) ↔ Same v w) → Merges g into Same
+  merges-same Same same v w a b = (
+    λ e. (same v w a b).0 (sym (into-class v a) ∙ e ∙ into-class w b),
+    λ s. into-class v a ∙ (same v w a b).1 s ∙ sym (into-class w b),
+  )
+
+-- the arcs in order make the image
+pub image-by : (N : ℕ) (g : JointValue N) (count : ℕ) (into : List ℕ) → IsMerging g into count → (merged sorted : List GraphArc) → merged ≡ filter_map (merged_arc into) g.arcs → AllPairs ArcBefore sorted → ((x : GraphArc) → Contains sorted x ↔ Contains merged x) → IsImage g into (record { pieces = g.pieces; caps = g.caps; inner = count; arcs = sorted })
+image-by N g count into merging merged sorted made up same =
+    record {
+      pieces = refl;
+      caps = refl;
+      merging = merging;
+      ordered = up;
+      arcs = λ x. (
+        λ m. let from = from_filter_map (merged_arc into) g.arcs x (subst (λ (zs : List GraphArc). Contains zs x) made ((same x).0 m)) in
+            (from.0, from.1, becomes into from.0 x from.2),
+        λ e. (same x).1 (subst (λ (zs : List GraphArc). Contains zs x) (sym made) (to_filter_map (merged_arc into) g.arcs e.0 x e.1 (from-becomes into e.0 x e.2))),
+      );
+    }
+
+module _ (N : ℕ) (g : JointValue N) (is : IsJoint N g) (numbers : List ℕ) (count : ℕ) (are : AreNumbered g numbers count) (into : List ℕ) (whole : IsInto numbers count (length g.caps) into) where
+  pub merging : RiseAlong g numbers → IsMerging g into count
+  merging rise = merging-by N g numbers count are into whole (omega arith, is.source) first-class
     where
       path-rises : (path : List GraphArc) (a b : ℕ) → b ≤ g.inner → IsPath g.arcs a b path → class_at numbers a ≤ class_at numbers b
       path-rises [] a b high h = omega (arith, ap (class_at numbers) h)
@@ -138,12 +163,6 @@ module _ (N : ℕ) (g : JointValue N) (is : IsJoint N g) (numbers : List ℕ) (c
           let way = is.comes first.0 (first.1.0, omega (arith, first.1.1)) in
           omega (arith, are.low 1 inner, path-rises way.0 1 first.0 first.1.1 way.1, first.2)
 
-  pub merges-same : (Same : ℕ → ℕ → Type 0) → ((v w : ℕ) → IsInner g v → IsInner g w → (class_at numbers v ≡ class_at numbers w) ↔ Same v w) → Merges g into Same
-  merges-same Same same v w a b = (
-    λ e. (same v w a b).0 (sym (into-class v a) ∙ e ∙ into-class w b),
-    λ s. into-class v a ∙ (same v w a b).1 s ∙ sym (into-class w b),
-  )
-
   pub rises-all : RiseAlong g numbers → (e : GraphArc) → Contains g.arcs e → (node_into into e.tail ≤ node_into into e.head) × ((node_into into e.tail ≡ node_into into e.head) → e.mark ≡ Loss)
   rises-all rise e m =
       let tail = tail-inner N g is e m in
@@ -153,12 +172,12 @@ module _ (N : ℕ) (g : JointValue N) (is : IsJoint N g) (numbers : List ℕ) (c
       let t = e.head - g.inner in
       let is_type : IsType g.caps t = (omega arith, omega (arith, head.1)) in
       let same : e.head ≡ target_at g t = omega arith in
-      let at : node_into into e.head ≡ count + t = ap (node_into into) same ∙ into-target t is_type in
-      (omega (arith, at, into-class e.tail tail, are.high e.tail tail), λ e_same. absurd (omega (arith, at, into-class e.tail tail, are.high e.tail tail, is_type.0))))
+      let at : node_into into e.head ≡ count + t = ap (node_into into) same ∙ into-target N g numbers count are into whole t is_type in
+      (omega (arith, at, into-class N g numbers count are into whole e.tail tail, are.high e.tail tail), λ e_same. absurd (omega (arith, at, into-class N g numbers count are into whole e.tail tail, are.high e.tail tail, is_type.0))))
       (λ ge.
       let inner : IsInner g e.head = (head.0, omega arith) in
       let up = rise e m inner in
-      (omega (arith, up.0, into-class e.tail tail, into-class e.head inner), λ same. up.1 (omega (arith, same, into-class e.tail tail, into-class e.head inner))))
+      (omega (arith, up.0, into-class N g numbers count are into whole e.tail tail, into-class N g numbers count are into whole e.head inner), λ same. up.1 (omega (arith, same, into-class N g numbers count are into whole e.tail tail, into-class N g numbers count are into whole e.head inner))))
       (cases_lt g.inner e.head)
 
   pub ends : (e : GraphArc) → Contains g.arcs e → HasEnds (length into) e
@@ -171,17 +190,5 @@ module _ (N : ℕ) (g : JointValue N) (is : IsJoint N g) (numbers : List ℕ) (c
         head_high = omega (arith, up.high, whole.sized, are.sized);
       }
 
-  -- the arcs in order make the image
   pub image-made : RiseAlong g numbers → (merged sorted : List GraphArc) → merged ≡ filter_map (merged_arc into) g.arcs → AllPairs ArcBefore sorted → ((x : GraphArc) → Contains sorted x ↔ Contains merged x) → IsImage g into (record { pieces = g.pieces; caps = g.caps; inner = count; arcs = sorted })
-  image-made rise merged sorted made up same =
-      record {
-        pieces = refl;
-        caps = refl;
-        merging = merging rise;
-        ordered = up;
-        arcs = λ x. (
-          λ m. let from = from_filter_map (merged_arc into) g.arcs x (subst (λ (zs : List GraphArc). Contains zs x) made ((same x).0 m)) in
-              (from.0, from.1, becomes into from.0 x from.2),
-          λ e. (same x).1 (subst (λ (zs : List GraphArc). Contains zs x) (sym made) (to_filter_map (merged_arc into) g.arcs e.0 x e.1 (from-becomes into e.0 x e.2))),
-        );
-      }
+  image-made rise = image-by N g count into (merging rise)

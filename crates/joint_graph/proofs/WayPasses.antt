@@ -2,23 +2,20 @@
 use Rattle.std.proofs.Common.{◌≡◌, ◌≢◌, ℕ, zero, suc, ◌+◌, ◌-◌, ◌<◌, ◌≤◌, Option, Some, None, List, [], ◌∷◌, ◌++◌, length, get_or, set, drop, replicate, refl, sym, ap, ◌∙◌, subst, ⊎_elim, arith}
 use Rattle.std.specs.Prelude.{Contains}
 use Rattle.std.proofs.lemmas.Bool.{cases_eq}
-use Rattle.std.proofs.lemmas.List.{get_or_default, get_or_read, get_or-drop, length-drop, drop_more, length-replicate, length-set, get_or-set_same, get_or-set_other}
+use Rattle.std.proofs.lemmas.List.{get_or_default, get_or_read, get_or-drop, length-drop, drop_more, length-set, get_or-set_same, get_or-set_other}
 use Rattle.std.proofs.lemmas.List.Elements.{Contains-get_or}
 use Rattle.weight_vec.specs.Weight.{IsInRange, plus}
-use Rattle.weight_vec.proofs.Places.{get_or-plus, get_or-zeros}
+use Rattle.weight_vec.proofs.Places.{get_or-plus}
 use Rattle.label_graph.specs.declared.parts.Piece.{Piece}
 use Rattle.label_graph.specs.declared.parts.GraphArc.{GraphArc}
-use Rattle.label_graph.specs.Graph.{ArcBefore, IsKnown, IsPath, weight_in, mark_weight}
-use Rattle.label_graph.proofs.Members.{contains_cons, contains_nothing}
+use Rattle.label_graph.specs.Graph.{ArcBefore, IsKnown, IsPath, mark_weight}
+use Rattle.label_graph.proofs.Members.{contains_cons}
 use Rattle.joint_graph.specs.Joints.{JointValue, IsJoint, IsType, node_count, target_at}
 use Rattle.joint_graph.specs.Ways.{IsWay, AreHeaviest}
 use Rattle.joint_graph.specs.inner.Passes.{relax, way_at, AreWaysAlong}
-use Rattle.joint_graph.proofs.JointPaths.{climbs-at, known-at, tail-node, head-node, path-range}
-use Rattle.joint_graph.proofs.WaysOn.{way-other, way-tail}
+use Rattle.joint_graph.proofs.JointPaths.{before-tail, climbs-at, known-at, tail-node, head-node, path-range}
+use Rattle.joint_graph.proofs.WaysOn.{way-itself, way-nowhere, way-other, way-tail}
 use Rattle.joint_graph.proofs.Weighing.{carried-narrow}
-
-before-tail : (e f : GraphArc) → ArcBefore e f → e.tail ≤ f.tail
-before-tail e f h = ⊎_elim (λ lt. omega arith) (λ w. omega (arith, w.0)) h
 
 -- one more node without a way
 pub none-more : (ways : List (Option (List ℕ))) → ((k : ℕ) → get_or ways k None ≡ None) → (k : ℕ) → get_or (ways ++ None ∷ []) k None ≡ None
@@ -39,24 +36,13 @@ module _ (N : ℕ) (g : JointValue N) (is : IsJoint N g) (t : ℕ) where
             (λ same.
             let place : v - 1 ≡ index = omega (arith, same, at) in
             let here : way_at ways v ≡ Some (replicate N 0) = ap (λ (k : ℕ). get_or ways k None) place ∙ get_or-set_same none index (Some (replicate N 0)) None lt in
-            subst (λ (o : Option (List ℕ)). IsWay g.pieces [] v (target_at g t) o) (sym here) (record {
-              sized = length-replicate N 0;
-              each = λ d. record { path = []; leads = same; weighs = sym (get_or-zeros N d); most = λ other h. only_empty v d other h };
-            }))
+            subst (λ (o : Option (List ℕ)). IsWay g.pieces [] v (target_at g t) o) (sym here) (way-itself g.pieces (target_at g t) v same))
             (λ ne.
             let place : v - 1 ≢ index = omega (arith, at, node.0, is_type.0) in
             let here : way_at ways v ≡ None = get_or-set_other none index (v - 1) (Some (replicate N 0)) None place ∙ empty (v - 1) in
-            subst (λ (o : Option (List ℕ)). IsWay g.pieces [] v (target_at g t) o) (sym here) (λ path h. no_path v ne path h))
+            subst (λ (o : Option (List ℕ)). IsWay g.pieces [] v (target_at g t) o) (sym here) (λ path h. way-nowhere g.pieces (target_at g t) v ne path h))
             (cases_eq v (target_at g t));
       }
-    where
-      only_empty : (v d : ℕ) (other : List GraphArc) → IsPath [] v (target_at g t) other → weight_in g.pieces d other ≤ get_or (replicate N 0) d 0
-      only_empty v d [] h = omega arith
-      only_empty v d (e ∷ other) h = absurd (contains_nothing e h.0)
-
-      no_path : (v : ℕ) → v ≢ target_at g t → (path : List GraphArc) → IsPath [] v (target_at g t) path → ⊥
-      no_path v ne [] h = ne h
-      no_path v ne (e ∷ path) h = contains_nothing e h.0
 
   -- one more arc in front
   ways-more : (e : GraphArc) (arcs : List GraphArc) → Contains g.arcs e → ((f : GraphArc) → Contains arcs f → e.tail ≤ f.tail) → ((f : GraphArc) → Contains arcs f → Contains g.arcs f) → (ways : List (Option (List ℕ))) → AreWaysAlong g t arcs ways → AreWaysAlong g t (e ∷ arcs) (set ways (e.tail - 1) (relax (mark_weight g.pieces e.mark) (way_at ways e.tail) (way_at ways e.head)))
@@ -69,7 +55,7 @@ module _ (N : ℕ) (g : JointValue N) (is : IsJoint N g) (t : ℕ) where
       (contains_cons e arcs f m) in
       let new = relax (mark_weight g.pieces e.mark) (way_at ways e.tail) (way_at ways e.head) in
       let all = set ways (e.tail - 1) new in
-      let made : IsWay g.pieces (e ∷ arcs) e.tail (target_at g t) new = way-tail g.pieces (target_at g t) e arcs after climbs (way_at ways e.tail) (way_at ways e.head) (carried-narrow N g is e.mark (known-at N g is e there)) (are.each e.tail tail) (are.each e.head head) in
+      let made : IsWay g.pieces (e ∷ arcs) e.tail (target_at g t) new = way-tail g.pieces (target_at g t) e arcs after climbs (way_at ways e.tail) (way_at ways e.head) (carried-narrow N g is e.mark) (are.each e.tail tail) (are.each e.head head) in
       record {
         count = length-set ways (e.tail - 1) new ∙ are.count;
         each = λ v node. ⊎_elim

@@ -1,13 +1,14 @@
 -- The heaviest ways on to a node, with one more arc in front.
-use Rattle.std.proofs.Common.{◌≡◌, ◌≢◌, ℕ, suc, ◌+◌, ◌<◌, ◌≤◌, ◌⊎◌, Option, Some, None, List, [], ◌∷◌, length, get_or, max, refl, sym, ap, ◌∙◌, subst, inl, inr, ⊎_elim, arith}
+use Rattle.std.proofs.Common.{◌≡◌, ◌≢◌, ℕ, suc, ◌+◌, ◌<◌, ◌≤◌, ◌⊎◌, Option, Some, None, List, [], ◌∷◌, length, get_or, replicate, max, refl, sym, ap, ◌∙◌, subst, inl, inr, ⊎_elim, arith}
 use Rattle.std.specs.Prelude.{Contains}
 use Rattle.std.proofs.lemmas.Bool.{cases_lt}
+use Rattle.std.proofs.lemmas.List.{length-replicate}
 use Rattle.weight_vec.specs.Weight.{higher, plus}
-use Rattle.weight_vec.proofs.Places.{get_or-higher, get_or-plus, length-higher}
+use Rattle.weight_vec.proofs.Places.{get_or-higher, get_or-plus, get_or-zeros, length-higher}
 use Rattle.label_graph.specs.declared.parts.Piece.{Piece}
 use Rattle.label_graph.specs.declared.parts.GraphArc.{GraphArc}
 use Rattle.label_graph.specs.Graph.{IsPath, weight_in, mark_weight}
-use Rattle.label_graph.proofs.Members.{contains_cons, contains_here, contains_there}
+use Rattle.label_graph.proofs.Members.{contains_cons, contains_here, contains_there, contains_nothing}
 use Rattle.joint_graph.specs.Ways.{AreHeaviest, IsWay}
 use Rattle.joint_graph.specs.inner.Passes.{relax}
 
@@ -16,6 +17,23 @@ length-sum [] [] h = refl
 length-sum [] (y ∷ ys) h = absurd (omega arith)
 length-sum (x ∷ xs) [] h = refl
 length-sum (x ∷ xs) (y ∷ ys) h = ap suc (length-sum xs ys (omega arith))
+
+-- without arcs a node has a way to itself alone
+module _ {N : ℕ} (pieces : List (Piece N)) (b : ℕ) where
+  pub way-itself : (v : ℕ) → v ≡ b → AreHeaviest pieces [] v b (replicate N 0)
+  way-itself v same =
+      record {
+        sized = length-replicate N 0;
+        each = λ d. record { path = []; leads = same; weighs = sym (get_or-zeros N d); most = λ other h. only_empty d other h };
+      }
+    where
+      only_empty : (d : ℕ) (other : List GraphArc) → IsPath [] v b other → weight_in pieces d other ≤ get_or (replicate N 0) d 0
+      only_empty d [] h = omega arith
+      only_empty d (e ∷ other) h = absurd (contains_nothing e h.0)
+
+  pub way-nowhere : (v : ℕ) → v ≢ b → (path : List GraphArc) → IsPath [] v b path → ⊥
+  way-nowhere v ne [] h = ne h
+  way-nowhere v ne (e ∷ path) h = contains_nothing e h.0
 
 module _ {N : ℕ} (pieces : List (Piece N)) (b : ℕ) (e : GraphArc) (arcs : List GraphArc) (after : (f : GraphArc) → Contains arcs f → e.tail ≤ f.tail) (climbs : (f : GraphArc) → Contains (e ∷ arcs) f → f.tail < f.head) where
   widened : (path : List GraphArc) (a : ℕ) → IsPath arcs a b path → IsPath (e ∷ arcs) a b path

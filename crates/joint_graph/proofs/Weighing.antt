@@ -1,11 +1,12 @@
 -- Ways are unique, and grow along arcs that carry something.
 use Rattle.std.proofs.Common.{◌≡◌, ℕ, ◌+◌, ◌-◌, ◌<◌, ◌≤◌, ◌⊎◌, Ordering, Option, Some, None, List, [], ◌∷◌, ◌++◌, length, get_or, map, refl, sym, ap, ◌∙◌, inl, inr, ⊎_elim, arith}
-use Rattle.std.specs.Prelude.{Contains}
+use Rattle.std.specs.Prelude.{All, Contains}
 use Rattle.std.specs.Ordering.{nat_cmp}
 use Rattle.std.specs.declared.cmp.Ordering.TheVariants.{Less, Equal, Greater}
 use Rattle.std.specs.Cmp.Lexicographic.{slice_cmp}
 use Rattle.std.proofs.lemmas.Cmp.{tied_itself, nat_list_cmp_total}
-use Rattle.std.proofs.lemmas.List.{ext_get_or, length-map}
+use Rattle.std.proofs.lemmas.Bool.{cases_lt}
+use Rattle.std.proofs.lemmas.List.{ext_get_or, get_or_past, length-map}
 use Rattle.std.proofs.lemmas.List.Elements.{All-map}
 use Rattle.arc_num.proofs.Orders.{number_equal, list_equal}
 use Rattle.weight_vec.specs.Weight.{AtMost, Before, IsZero}
@@ -73,6 +74,16 @@ under-cases N None (Some y) one two is = absurd is
 under-cases N (Some x) (Some y) one two is =
     ⊎_elim (λ same. inl (ap Some (sym same))) (λ before. inr before) (at-most-cases y x (two y refl ∙ sym (one x refl)) is)
 
+-- what a mark carries has no more places than the pieces
+pub mark-narrow : {N : ℕ} (pieces : List (Piece N)) → All (λ (q : Piece N). length q.weight ≡ N) pieces → (m : Mark) → length (mark_weight pieces m) ≤ N
+mark-narrow pieces sized Loss = omega arith
+mark-narrow {N} pieces sized (Carries p) =
+    let weights : List (List ℕ) = map (λ (q : Piece N). q.weight) pieces in
+    ⊎_elim
+    (λ lt. let here : length (get_or weights (p - 1) []) ≡ N = All-map (λ (l : List ℕ). length l ≡ N) (λ (q : Piece N). q.weight) pieces sized (p - 1) [] lt in omega arith)
+    (λ past. let none : length (get_or weights (p - 1) []) ≡ 0 = ap length (get_or_past weights (p - 1) [] past) in omega arith)
+    (cases_lt (p - 1) (length weights))
+
 module _ (N : ℕ) (g : JointValue N) (is : IsJoint N g) where
   -- a mark that carries nothing is loss
   pub loss-only : (m : Mark) → IsKnown g.pieces m → ((d : ℕ) → get_or (mark_weight g.pieces m) d 0 ≡ 0) → m ≡ Loss
@@ -82,10 +93,5 @@ module _ (N : ℕ) (g : JointValue N) (is : IsJoint N g) where
       let lt : p - 1 < length weights = omega (arith, known.0, known.1, length-map g.pieces (λ (q : Piece N). q.weight)) in
       absurd (All-map (λ (l : List ℕ). IsZero l → ⊥) (λ (q : Piece N). q.weight) g.pieces is.heavy (p - 1) [] lt nothing)
 
-  pub carried-narrow : (m : Mark) → IsKnown g.pieces m → length (mark_weight g.pieces m) ≤ N
-  carried-narrow Loss known = omega arith
-  carried-narrow (Carries p) known =
-      let weights : List (List ℕ) = map (λ (q : Piece N). q.weight) g.pieces in
-      let lt : p - 1 < length weights = omega (arith, known.0, known.1, length-map g.pieces (λ (q : Piece N). q.weight)) in
-      let sized : length (get_or weights (p - 1) []) ≡ N = All-map (λ (l : List ℕ). length l ≡ N) (λ (q : Piece N). q.weight) g.pieces is.pieces_sized (p - 1) [] lt in
-      omega arith
+  pub carried-narrow : (m : Mark) → length (mark_weight g.pieces m) ≤ N
+  carried-narrow m = mark-narrow g.pieces is.pieces_sized m

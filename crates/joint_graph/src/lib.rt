@@ -14,4 +14,7 @@ mod states;
 
 pub use graph::Joint;
 pub use joints::{JointGraph, JointSize, joint};
-pub use laws::{joint_paths_cover, joint_paths_fit};
+pub use laws::{
+    joint_finals_are_one, joint_mains_are_alike, joint_mains_are_one, joint_mains_exist,
+    joint_paths_cover, joint_paths_fit,
+};

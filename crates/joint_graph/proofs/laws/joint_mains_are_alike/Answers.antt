@@ -1,0 +1,5 @@
+use Rattle.joint_graph.proofs.MainsOne.{mains_are_alike}
+use Rattle.joint_graph.proofs.laws.joint_mains_are_alike.Goals as goal
+
+pub returns : goal.returns
+returns c = mains_are_alike
