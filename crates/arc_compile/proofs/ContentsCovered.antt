@@ -19,10 +19,11 @@ use Rattle.arc_compile.specs.Pieces.{padded}
 use Rattle.arc_compile.proofs.PathContents.{path-known}
 use Rattle.arc_compile.proofs.PathCounts.{same_content}
 use Rattle.arc_compile.proofs.PieceChoices.{choice_of, is_choice}
+use Rattle.arc_compile.proofs.PieceNumbers.{hold_own}
 use Rattle.arc_compile.proofs.TypeGraphs.{AreGraphs, same_pieces}
 
 -- a path that carries as another, which carries as a third
-carried-twice : (first second third : List GraphArc) (n : ℕ) (content : List ℕ) → CarriesAs third second → CarriesAs second first → ((p : ℕ) → p < n → copies_along (p + 1) first ≡ get_or content p 0) → (p : ℕ) → p < n → copies_along (p + 1) third ≡ get_or content p 0
+pub carried-twice : (first second third : List GraphArc) (n : ℕ) (content : List ℕ) → CarriesAs third second → CarriesAs second first → ((p : ℕ) → p < n → copies_along (p + 1) first ≡ get_or content p 0) → (p : ℕ) → p < n → copies_along (p + 1) third ≡ get_or content p 0
 carried-twice first second third n content later sooner copies p lt = later (p + 1) ∙ (sooner (p + 1) ∙ copies p lt)
 
 module _ (levels : ChoicesHaveOnePath) (mains : MainGraphsKeepContents) (finals : FinalGraphsKeepContents) (N : ℕ) (I : InstanceValue) (t : ℕ) (level main final : GraphValue N) (known : IsInstance I) (types : AreTypeGraphs I t level main final) (graphs : AreGraphs I t level main final) where
@@ -37,7 +38,7 @@ module _ (levels : ChoicesHaveOnePath) (mains : MainGraphsKeepContents) (finals 
       let pieces = types.mains.pieces in
       let cap = padded N (extended_capacity I t) in
       let is = types.mains.level_is in
-      let first = levels N pieces cap is.states level.arcs is.levels (choice_of pieces c) (is_choice I t known pieces types.mains.are_pieces c fits within) in
+      let first = levels N pieces cap is.states level.arcs is.levels (choice_of pieces c) (is_choice I t known pieces (hold_own I t pieces types.mains.are_pieces) c fits within) in
       let nodes : length is.states ≡ length level.labels = sym (length-map is.states (λ (s : State N). s.used)) ∙ ap length (sym is.labels_are) in
       let leads : IsPath level.arcs 1 (length level.labels) first.path = subst (λ (n : ℕ). IsPath level.arcs 1 n first.path) nodes first.leads in
       let second = mains N cap level main graphs.level_graph graphs.room types.mains.main_is first.path leads in
@@ -54,7 +55,7 @@ module _ (levels : ChoicesHaveOnePath) (mains : MainGraphsKeepContents) (finals 
       let same : final.pieces ≡ pieces = same_pieces I t level main final types in
       let found = choice_path c fits within in
       let marks = path-known final.pieces final.arcs found.path 1 (length final.labels) graphs.final_graph.known found.leads in
-      let content : SameContent (content_along pieces found.path) c = same_content I t known pieces types.mains.are_pieces c fits within found.path (subst (λ ps. All (λ e. IsKnown ps e.mark) found.path) same marks) found.copies in
+      let content : SameContent (content_along pieces found.path) c = same_content I t known pieces (hold_own I t pieces types.mains.are_pieces) c fits within found.path (subst (λ ps. All (λ e. IsKnown ps e.mark) found.path) same marks) found.copies in
       record {
         path = found.path;
         leads = found.leads;

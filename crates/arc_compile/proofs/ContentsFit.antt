@@ -12,6 +12,7 @@ use Rattle.arc_compile.specs.Exact.{content_along}
 use Rattle.arc_compile.specs.Graphs.{AreTypeGraphs}
 use Rattle.arc_compile.specs.Pieces.{padded}
 use Rattle.arc_compile.proofs.ExtendedWeights.{fits_within}
+use Rattle.arc_compile.proofs.HeldPieces.{form_pieces}
 use Rattle.arc_compile.proofs.PathContents.{path-known, content-exists, content-weighs}
 use Rattle.arc_compile.proofs.TypeGraphs.{AreGraphs}
 
@@ -28,6 +29,7 @@ module _ (mains : MainPathsFit) (finals : FinalPathsWeighNoMore) (N : ℕ) (I : 
 
   pub contents_fit : (path : List GraphArc) → IsPath final.arcs 1 (length final.labels) path → Fits I t (content_along final.pieces path)
   contents_fit path leads =
+      let each = form_pieces I t final.pieces graphs.pieces.each in
       let known = path-known final.pieces final.arcs path 1 (length final.labels) graphs.final_graph.known leads in
-      fits_within I inside t among (content_along final.pieces path) (content-exists I t final.pieces graphs.pieces.each path known)
-      (λ d. omega (arith, content-weighs I t final.pieces graphs.pieces.each d path known, path-fits d path leads))
+      fits_within I inside t among (content_along final.pieces path) (content-exists I final.pieces each path known)
+      (λ d. omega (arith, content-weighs I final.pieces each d path known, path-fits d path leads))

@@ -30,20 +30,20 @@ cut-padded n N v sized =
 pub padded-padded : (n N : ℕ) (v : List ℕ) → length v ≡ n → IsPadded n (padded N v)
 padded-padded n N v sized d le = get_or-padded v (N - length v) d ∙ get_or_past v d 0 (omega arith)
 
-length-padded : (N : ℕ) (v : List ℕ) → length v ≤ N → length (padded N v) ≡ N
+pub length-padded : (N : ℕ) (v : List ℕ) → length v ≤ N → length (padded N v) ≡ N
 length-padded N v le = omega (arith, length-append v (replicate (N - length v) 0), length-replicate {A = ℕ} (N - length v) 0)
 
 module _ {N : ℕ} (I : InstanceValue) (t : ℕ) (known : IsInstance I) (wide : places_of I ≤ N) where
-  vector : (q : Piece N) → IsPiece I t q → IsVector (places_of I) (extended_weight I q.item q.form)
+  pub vector : (q : Piece N) → IsPiece I t q → IsVector (places_of I) (extended_weight I q.item q.form)
   vector q h = weight_vector I known q.item q.form h.item_is h.form_is
 
-  weight-sized : (q : Piece N) → IsPiece I t q → length q.weight ≡ N
+  pub weight-sized : (q : Piece N) → IsPiece I t q → length q.weight ≡ N
   weight-sized q h = ap length h.weighs ∙ length-padded N (extended_weight I q.item q.form) (omega (arith, (vector q h).size))
 
   pub weight-padded : (q : Piece N) → IsPiece I t q → IsPadded (places_of I) q.weight
   weight-padded q h = subst (IsPadded (places_of I)) (sym h.weighs) (padded-padded (places_of I) N (extended_weight I q.item q.form) (vector q h).size)
 
-  piece-cut : (q : Piece N) → IsPiece I t q → IsPiece I t (cut_piece (places_of I) q)
+  pub piece-cut : (q : Piece N) → IsPiece I t q → IsPiece I t (cut_piece (places_of I) q)
   piece-cut q h = record {
     item_is = h.item_is;
     form_is = h.form_is;
@@ -54,7 +54,7 @@ module _ {N : ℕ} (I : InstanceValue) (t : ℕ) (known : IsInstance I) (wide : 
   }
 
   -- each piece is the cut of one
-  piece-lift : (q : Piece (places_of I)) → IsPiece I t q → (p : Piece N) × IsPiece I t p × (cut_piece (places_of I) p ≡ q)
+  pub piece-lift : (q : Piece (places_of I)) → IsPiece I t q → (p : Piece N) × IsPiece I t p × (cut_piece (places_of I) p ≡ q)
   piece-lift q h =
       let v = extended_weight I q.item q.form in
       let sized = (weight_vector I known q.item q.form h.item_is h.form_is).size in
@@ -64,14 +64,14 @@ module _ {N : ℕ} (I : InstanceValue) (t : ℕ) (known : IsInstance I) (wide : 
         (λ i. record { item = q.item; form = q.form; weight = same i; copies = q.copies }),
       )
 
-  order-cut : (p q : Piece N) → IsPiece I t p → IsPiece I t q → piece_cmp (cut_piece (places_of I) p) (cut_piece (places_of I) q) ≡ piece_cmp p q
+  pub order-cut : (p q : Piece N) → IsPiece I t p → IsPiece I t q → piece_cmp (cut_piece (places_of I) p) (cut_piece (places_of I) q) ≡ piece_cmp p q
   order-cut p q hp hq = ap (λ (o : Ordering). ordering_then o (ordering_then (nat_cmp p.item q.item) (nat_cmp p.form q.form))) (cmp-cut (places_of I) q.weight p.weight (weight-sized q hq ∙ sym (weight-sized p hp)) (weight-padded q hq) (weight-padded p hp))
 
-  above-cut : (p : Piece N) → IsPiece I t p → (qs : List (Piece N)) → All (IsPiece I t) qs → AllByRecursion (λ q. piece_cmp p q ≡ Less) qs → AllByRecursion (λ q. piece_cmp (cut_piece (places_of I) p) q ≡ Less) (map (cut_piece (places_of I)) qs)
+  pub above-cut : (p : Piece N) → IsPiece I t p → (qs : List (Piece N)) → All (IsPiece I t) qs → AllByRecursion (λ q. piece_cmp p q ≡ Less) qs → AllByRecursion (λ q. piece_cmp (cut_piece (places_of I) p) q ≡ Less) (map (cut_piece (places_of I)) qs)
   above-cut p hp [] each h = h
   above-cut p hp (q ∷ qs) each h = (order-cut p q hp (each 0 p (omega arith)) ∙ h.0, above-cut p hp qs (λ k d lt. each (suc k) d (omega arith)) h.1)
 
-  sorted-cut : (ps : List (Piece N)) → All (IsPiece I t) ps → IsStrictlySortedBy piece_cmp ps → IsStrictlySortedBy piece_cmp (map (cut_piece (places_of I)) ps)
+  pub sorted-cut : (ps : List (Piece N)) → All (IsPiece I t) ps → IsStrictlySortedBy piece_cmp ps → IsStrictlySortedBy piece_cmp (map (cut_piece (places_of I)) ps)
   unfolding IsStrictlySortedBy
   sorted-cut [] each h = h
   sorted-cut (p ∷ ps) each h =

@@ -15,11 +15,11 @@ use Rattle.packing_laws.proofs.PackedItems.{vector_fits-at}
 use Rattle.arc_compile.specs.Extended.{places_of, counted_by_caps, extended_weight, extended_capacity, extended_in}
 use Rattle.arc_compile.specs.CompileLaws.{ExtendedWeightsTellFits}
 
-one_at_most : (b : Bool) → cond b 1 0 ≤ 1
+pub one_at_most : (b : Bool) → cond b 1 0 ≤ 1
 one_at_most true = omega arith
 one_at_most false = omega arith
 
-times_cond : (b : Bool) (n : ℕ) → n * cond b 1 0 ≡ cond b n 0
+pub times_cond : (b : Bool) (n : ℕ) → n * cond b 1 0 ≡ cond b n 0
 times_cond true n = omega arith
 times_cond false n = omega arith
 
@@ -55,11 +55,11 @@ module _ (I : InstanceValue) (known : IsInstance I) where
       }
 
   -- the number of a form in the place of a dimension
-  weight-dims : (i f : ℕ) → IsVector I.dims (form_at I i f) → (d : ℕ) → d < I.dims → get_or (extended_weight I i f) d 0 ≡ get_or (form_at I i f) d 0
+  pub weight-dims : (i f : ℕ) → IsVector I.dims (form_at I i f) → (d : ℕ) → d < I.dims → get_or (extended_weight I i f) d 0 ≡ get_or (form_at I i f) d 0
   weight-dims i f vector d lt = get_or_append_left (form_at I i f) (counted_by_caps I i) 0 d (omega (arith, vector.size))
 
   -- and in that of a cap
-  weight-caps : (i f : ℕ) → IsVector I.dims (form_at I i f) → (j : ℕ) (k : ItemCap) → j < length I.caps → get_or (extended_weight I i f) (I.dims + j) 0 ≡ cond (i == (get_or I.caps j k).item) 1 0
+  pub weight-caps : (i f : ℕ) → IsVector I.dims (form_at I i f) → (j : ℕ) (k : ItemCap) → j < length I.caps → get_or (extended_weight I i f) (I.dims + j) 0 ≡ cond (i == (get_or I.caps j k).item) 1 0
   weight-caps i f vector j k lt =
       let form = form_at I i f in
       let counted = counted_by_caps I i in
@@ -67,7 +67,7 @@ module _ (I : InstanceValue) (known : IsInstance I) where
       ap (λ (m : ℕ). get_or (form ++ counted) m 0) e ∙ (get_or-append-add form counted j 0 ∙ get_or-map (λ (m : ItemCap). cond (i == m.item) 1 0) I.caps j k 0 lt)
 
   -- in the places of the dimensions a content weighs what it weighs in these
-  extended-dims : (d : ℕ) → d < I.dims → (c : Content) → All (Exists I) c → extended_in I d c ≡ weight_in I (d + 1) c
+  pub extended-dims : (d : ℕ) → d < I.dims → (c : Content) → All (Exists I) c → extended_in I d c ≡ weight_in I (d + 1) c
   extended-dims d lt [] exists = refl
   extended-dims d lt (n ∷ c) exists =
       let form = form_at I n.item n.form in
@@ -81,7 +81,7 @@ module _ (I : InstanceValue) (known : IsInstance I) where
       omega arith
 
   -- in the place of a cap it weighs as many units as it has of the cap's item
-  extended-caps : (j : ℕ) (k : ItemCap) → j < length I.caps → (c : Content) → All (Exists I) c → extended_in I (I.dims + j) c ≡ count_of_item (get_or I.caps j k).item c
+  pub extended-caps : (j : ℕ) (k : ItemCap) → j < length I.caps → (c : Content) → All (Exists I) c → extended_in I (I.dims + j) c ≡ count_of_item (get_or I.caps j k).item c
   extended-caps j k lt [] exists = refl
   extended-caps j k lt (n ∷ c) exists =
       let there = All-head (Exists I) n c exists in
@@ -94,7 +94,7 @@ module _ (I : InstanceValue) (known : IsInstance I) where
       omega arith
 
   -- past all places it weighs nothing
-  extended-past : (d : ℕ) → places_of I ≤ d → (c : Content) → All (Exists I) c → extended_in I d c ≡ 0
+  pub extended-past : (d : ℕ) → places_of I ≤ d → (c : Content) → All (Exists I) c → extended_in I d c ≡ 0
   extended-past d past [] exists = refl
   extended-past d past (n ∷ c) exists =
       let there = All-head (Exists I) n c exists in

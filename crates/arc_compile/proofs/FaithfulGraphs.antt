@@ -17,6 +17,7 @@ use Rattle.arc_compile.specs.Extended.{places_of}
 use Rattle.arc_compile.specs.Exact.{content_along}
 use Rattle.arc_compile.specs.Compiled.{IsCompiledType, type_arc, size_at}
 use Rattle.arc_compile.specs.CompileLaws.{FinalGraphsAreExact, CompiledGraphsAreFaithful}
+use Rattle.arc_compile.proofs.HeldPieces.{form_pieces}
 use Rattle.arc_compile.proofs.NumberedPaths.{arcs_exist, graph_path, type_path, type_content}
 use Rattle.arc_compile.proofs.TypeGraphs.{are_graphs}
 
@@ -34,21 +35,21 @@ module _ (levels : LevelGraphsAreGraphs) (mains : MainGraphsAreGraphs) (finals :
       let wide : places_of I ≤ places_of I = omega arith in
       let graphs = are_graphs levels mains finals (places_of I) I t h.level h.main g known among wide small h.graphs in
       let is = exact (places_of I) I t h.level h.main g known among wide small h.graphs in
-      let each = graphs.pieces.each in
+      let each = form_pieces I t g.pieces graphs.pieces.each in
       let marks = graphs.final_graph.known in
       record {
-        exists = arcs_exist I t g x h.numbered each marks;
+        exists = arcs_exist I g.pieces g.arcs x.arcs h.numbered.arcs each marks;
         fits = λ path leads.
-            let found = graph_path I t g x h.numbered each marks path 1 x.nodes leads in
+            let found = graph_path I g.pieces g.arcs x.arcs h.numbered.arcs each marks path 1 x.nodes leads in
             let like = subst (λ (n : ℕ). IsPath g.arcs 1 n found.like) h.numbered.nodes found.leads in
-            let content : content_of path ≡ content_along g.pieces found.like = ap content_of found.arcs ∙ type_content I t g x h.numbered each marks found.like 1 x.nodes found.leads in
+            let content : content_of path ≡ content_along g.pieces found.like = ap content_of found.same ∙ type_content I g.pieces g.arcs x.arcs h.numbered.arcs each marks found.like 1 x.nodes found.leads in
             subst (Fits I t) (sym content) (is.fits found.like like);
         covers = λ c fits within.
             let found = is.covers c fits within in
             let leads = subst (λ (n : ℕ). IsPath g.arcs 1 n found.path) (sym h.numbered.nodes) found.leads in
-            let content : content_of (map (type_arc g.pieces) found.path) ≡ content_along g.pieces found.path = type_content I t g x h.numbered each marks found.path 1 x.nodes leads in (
+            let content : content_of (map (type_arc g.pieces) found.path) ≡ content_along g.pieces found.path = type_content I g.pieces g.arcs x.arcs h.numbered.arcs each marks found.path 1 x.nodes leads in (
               map (type_arc g.pieces) found.path,
-              type_path I t g x h.numbered each marks found.path 1 x.nodes leads,
+              type_path I g.pieces g.arcs x.arcs h.numbered.arcs each marks found.path 1 x.nodes leads,
               subst (λ (d : Content). SameContent d c) (sym content) found.same,
             );
       }

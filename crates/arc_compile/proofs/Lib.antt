@@ -3,6 +3,7 @@ pub mod OneCompiled
 pub mod PiecesExist
 pub mod SizesExist
 pub mod RankLemmas
+pub mod HeldPieces
 pub mod PieceLists
 pub mod Numbering
 pub mod NodeCounts

@@ -6,19 +6,19 @@ use Rattle.label_graph.specs.declared.parts.GraphArc.{GraphArc}
 use Rattle.label_graph.specs.Graph.{GraphValue, IsGraph, ArcBefore}
 use Rattle.level_graph.proofs.Members.{contains_cons, contains_nothing}
 
-tail_le : (e f : GraphArc) → ArcBefore e f → e.tail ≤ f.tail
+pub tail_le : (e f : GraphArc) → ArcBefore e f → e.tail ≤ f.tail
 tail_le e f h = ⊎_elim (λ lt. omega arith) (λ k. omega (arith, k.0)) h
 
-later : (e : GraphArc) (rest : List GraphArc) → AllPairs ArcBefore (e ∷ rest) → AllPairs ArcBefore rest
+pub later : (e : GraphArc) (rest : List GraphArc) → AllPairs ArcBefore (e ∷ rest) → AllPairs ArcBefore rest
 later e rest up i j d lt in_range = up (suc i) (suc j) d (omega arith) (omega arith)
 
-first_le : (e : GraphArc) (rest : List GraphArc) (f : GraphArc) → AllPairs ArcBefore (e ∷ rest) → Contains rest f → e.tail ≤ f.tail
+pub first_le : (e : GraphArc) (rest : List GraphArc) (f : GraphArc) → AllPairs ArcBefore (e ∷ rest) → Contains rest f → e.tail ≤ f.tail
 first_le e rest f up m =
     let lt : m.0 < length rest = m.1 in
     tail_le e f (subst (λ (x : GraphArc). ArcBefore e x) m.2 (up 0 (suc m.0) f (omega arith) (omega arith)))
 
 -- arcs in order, one out of each node from a up to n
-out_of_each : (arcs : List GraphArc) (a n : ℕ) → AllPairs ArcBefore arcs → ((v : ℕ) → a ≤ v → v < n → (e : GraphArc) × Contains arcs e × (e.tail ≡ v)) → n ≤ a + length arcs
+pub out_of_each : (arcs : List GraphArc) (a n : ℕ) → AllPairs ArcBefore arcs → ((v : ℕ) → a ≤ v → v < n → (e : GraphArc) × Contains arcs e × (e.tail ≡ v)) → n ≤ a + length arcs
 out_of_each [] a n up out = ⊎_elim (λ lt. absurd (let h = out a (omega arith) lt in contains_nothing h.0 h.1)) (λ le. omega arith) (cases_lt a n)
 out_of_each (e ∷ rest) a n up out =
     ⊎_elim

@@ -2,6 +2,8 @@
 use Rattle.std.proofs.Common.{◌≡◌, ℕ, suc, ◌+◌, ◌-◌, ◌<◌, List, [], length, get_or, sym, ap, ◌∙◌, subst, ⊎_elim, arith}
 use Rattle.std.proofs.lemmas.List.{ext_get_or}
 use Rattle.packing_laws.specs.Instances.{InstanceValue, IsAmong}
+use Rattle.label_graph.specs.declared.parts.GraphArc.{GraphArc}
+use Rattle.label_graph.specs.declared.parts.Piece.{Piece}
 use Rattle.label_graph.specs.Graph.{GraphValue}
 use Rattle.label_graph.proofs.OneImage.{same-list}
 use Rattle.level_graph.specs.LevelLaws.{LevelsAreOne}
@@ -13,11 +15,11 @@ use Rattle.flow_graph.specs.Arcs.{TypeValue, ArcBefore, flow_type}
 use Rattle.arc_compile.specs.declared.results.TypeSize.{TypeSize}
 use Rattle.arc_compile.specs.Extended.{places_of}
 use Rattle.arc_compile.specs.Graphs.{AreTypeGraphs}
-use Rattle.arc_compile.specs.Compiled.{IsNumberedType, AreSizes, IsCompiledType, AreCompiled, size_at}
+use Rattle.arc_compile.specs.Compiled.{AreNumbered, IsNumberedType, AreSizes, IsCompiledType, AreCompiled, size_at}
 use Rattle.arc_compile.specs.CompileLaws.{CompiledGraphsAreOne}
 use Rattle.arc_compile.proofs.OneSize.{one_main}
 
-arc-one_way : (e f : TypeArc) → ArcBefore e f → ArcBefore f e → ⊥
+pub arc-one_way : (e f : TypeArc) → ArcBefore e f → ArcBefore f e → ⊥
 arc-one_way e f h k =
     ⊎_elim
     (λ lt. ⊎_elim (λ gt. omega arith) (λ w. omega (arith, w.0)) k)
@@ -37,13 +39,17 @@ arc-one_way e f h k =
     h
 
 module _ {N : ℕ} where
-  one_numbered : (g : GraphValue N) (x y : TypeValue) → IsNumberedType g x → IsNumberedType g y → x ≡ y
+  -- arcs are numbered in but one way
+  pub one_row : (pieces : List (Piece N)) (arcs : List GraphArc) (xs ys : List TypeArc) → AreNumbered pieces arcs xs → AreNumbered pieces arcs ys → xs ≡ ys
+  one_row pieces arcs xs ys first second = same-list ArcBefore arc-one_way xs ys first.ordered second.ordered (λ a m. (second.same a).1 ((first.same a).0 m)) (λ a m. (first.same a).1 ((second.same a).0 m))
+
+  pub one_numbered : (g : GraphValue N) (x y : TypeValue) → IsNumberedType g x → IsNumberedType g y → x ≡ y
   one_numbered g x y first second =
       let nodes : x.nodes ≡ y.nodes = first.nodes ∙ sym second.nodes in
-      let arcs : x.arcs ≡ y.arcs = same-list ArcBefore arc-one_way x.arcs y.arcs first.ordered second.ordered (λ a m. (second.arcs a).1 ((first.arcs a).0 m)) (λ a m. (first.arcs a).1 ((second.arcs a).0 m)) in
+      let arcs : x.arcs ≡ y.arcs = one_row g.pieces g.arcs x.arcs y.arcs first.arcs second.arcs in
       λ i. record { nodes = nodes i; arcs = arcs i }
 
-  one_sizes : (main final : GraphValue N) (size other : TypeSize) → AreSizes main final size → AreSizes main final other → size ≡ other
+  pub one_sizes : (main final : GraphValue N) (size other : TypeSize) → AreSizes main final size → AreSizes main final other → size ≡ other
   one_sizes main final size other first second =
       let main_nodes : size.main_nodes ≡ other.main_nodes = first.main_nodes ∙ sym second.main_nodes in
       let main_arcs : size.main_arcs ≡ other.main_arcs = first.main_arcs ∙ sym second.main_arcs in
@@ -52,7 +58,7 @@ module _ {N : ℕ} where
       λ i. record { main_nodes = main_nodes i; main_arcs = main_arcs i; final_nodes = final_nodes i; final_arcs = final_arcs i }
 
 module _ (levels_one : LevelsAreOne) (mains_one : MainGraphsAreOne) (finals_one : FinalGraphsAreOne) (I : InstanceValue) where
-  one_type : (N t : ℕ) (x y : TypeValue) (size other : TypeSize) → IsCompiledType N I t x size → IsCompiledType N I t y other → (x ≡ y) × (size ≡ other)
+  pub one_type : (N t : ℕ) (x y : TypeValue) (size other : TypeSize) → IsCompiledType N I t x size → IsCompiledType N I t y other → (x ≡ y) × (size ≡ other)
   one_type N t x y size other first second =
       let main : second.main ≡ first.main = one_main levels_one mains_one I N t second.level first.level second.main first.main second.graphs.mains first.graphs.mains in
       let final : second.final ≡ first.final = finals_one N first.main second.final first.final (subst (λ (g : GraphValue N). IsFinalGraph g second.final) main second.graphs.final_is) first.graphs.final_is in
@@ -61,7 +67,7 @@ module _ (levels_one : LevelsAreOne) (mains_one : MainGraphsAreOne) (finals_one 
       let sizes : AreSizes first.main first.final other = subst (λ (g : GraphValue N). AreSizes first.main g other) final of_main in
       (one_numbered first.final x y first.numbered numbered, one_sizes first.main first.final size other first.sizes sizes)
 
-  one_graph : (g more : List TypeValue) (sizes others : List TypeSize) → AreCompiled I g sizes → AreCompiled I more others → (g ≡ more) × (sizes ≡ others)
+  pub one_graph : (g more : List TypeValue) (sizes others : List TypeSize) → AreCompiled I g sizes → AreCompiled I more others → (g ≡ more) × (sizes ≡ others)
   one_graph g more sizes others first second =
       let no_type : TypeValue = record { nodes = 1; arcs = [] } in
       let no_size : TypeSize = record { main_nodes = 0; main_arcs = 0; final_nodes = 0; final_arcs = 0 } in

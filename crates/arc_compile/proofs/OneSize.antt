@@ -22,10 +22,10 @@ use Rattle.arc_compile.specs.Graphs.{AreMainGraphs, HasMainArcs, HaveMainArcs, I
 use Rattle.arc_compile.specs.Pieces.{padded, IsPiece, ArePieces, piece_cmp}
 
 module _ {N : ℕ} where
-  piece_total : IsTotalOrder (piece_cmp {N = N})
+  pub piece_total : IsTotalOrder (piece_cmp {N = N})
   piece_total = then_total (back_total (on_total (λ (q : Piece N). q.weight) nat_list_cmp_total)) (then_total (on_total (λ (q : Piece N). q.item) nat_cmp_total) (on_total (λ (q : Piece N). q.form) nat_cmp_total))
 
-  never_both : (p q : Piece N) → piece_cmp p q ≡ Less → piece_cmp q p ≡ Less → ⊥
+  pub never_both : (p q : Piece N) → piece_cmp p q ≡ Less → piece_cmp q p ≡ Less → ⊥
   never_both p q h k =
       let itself : piece_cmp p p ≡ Less = piece_total.trans p q p h k in
       let tied : piece_cmp p p ≡ Equal = tied_itself piece_total p in
@@ -58,7 +58,7 @@ module _ (levels_one : LevelsAreOne) (mains_one : MainGraphsAreOne) (I : Instanc
       let same : more ≡ level = one_level levels_one first.pieces room more level (subst (λ (ps : List (Piece N)). IsLevelGraph ps room more) pieces second.level_is) first.level_is in
       mains_one N room level main other first.main_is (subst (λ (g : GraphValue N). IsMainGraph room g other) same second.main_is)
 
-  one_main_arcs : (N t : ℕ) (arcs more : ℕ) → HasMainArcs N I t arcs → HasMainArcs N I t more → arcs ≡ more
+  pub one_main_arcs : (N t : ℕ) (arcs more : ℕ) → HasMainArcs N I t arcs → HasMainArcs N I t more → arcs ≡ more
   one_main_arcs N t arcs more first second =
       let main : first.main ≡ second.main = one_main N t first.level second.level first.main second.main first.mains second.mains in
       first.arcs_are ∙ (ap (λ (g : GraphValue N). length g.arcs) main ∙ sym second.arcs_are)
@@ -83,17 +83,17 @@ module _ (levels_one : LevelsAreOne) (mains_one : MainGraphsAreOne) (I : Instanc
       omega arith)
       (cases_lt t (suc s))
 
-  never_small : (t : ℕ) → IsSmall I → IsTooLarge I t → ⊥
+  pub never_small : (t : ℕ) → IsSmall I → IsTooLarge I t → ⊥
   never_small t small large =
       let rises = sums-rise t (length I.types) large.arcs small.0 large.bin_type.1 large.have small.1 in
       omega (arith, small.2, large.past)
 
-  never_before : (t s : ℕ) → IsTooLarge I t → IsTooLarge I s → t < s → ⊥
+  pub never_before : (t s : ℕ) → IsTooLarge I t → IsTooLarge I s → t < s → ⊥
   never_before t s first second lt =
       let rises = sums-rise t (s - 1) first.arcs second.before (omega arith) first.have second.have_before in
       omega (arith, first.past, second.within)
 
-  one_first : (t s : ℕ) → IsTooLarge I t → IsTooLarge I s → t ≡ s
+  pub one_first : (t s : ℕ) → IsTooLarge I t → IsTooLarge I s → t ≡ s
   one_first t s first second =
       ⊎_elim
       (λ same. same)

@@ -58,12 +58,14 @@ module _ {N : ℕ} (n : ℕ) where
   numbered-cut g x h =
       record {
         nodes = h.nodes ∙ labels-count g;
-        ordered = h.ordered;
-        count = h.count;
-        arcs = λ a. (
-          λ m. let e = (h.arcs a).0 m in (e.0, e.1, arc-cut n g.pieces e.0 ∙ e.2),
-          λ e. (h.arcs a).1 (e.0, e.1, sym (arc-cut n g.pieces e.0) ∙ e.2),
-        );
+        arcs = record {
+          ordered = h.arcs.ordered;
+          count = h.arcs.count;
+          same = λ a. (
+            λ m. let e = (h.arcs.same a).0 m in (e.0, e.1, arc-cut n g.pieces e.0 ∙ e.2),
+            λ e. (h.arcs.same a).1 (e.0, e.1, sym (arc-cut n g.pieces e.0) ∙ e.2),
+          );
+        };
       }
 
   -- and the same sizes

@@ -18,29 +18,29 @@ use Rattle.label_graph.specs.declared.parts.Piece.{Piece}
 use Rattle.label_graph.specs.Graph.{IsKnown, mark_copies, copies_along}
 use Rattle.arc_compile.specs.Extended.{extended_weight}
 use Rattle.arc_compile.specs.Exact.{with_mark, content_along}
-use Rattle.arc_compile.specs.Pieces.{padded, IsPiece, ArePieces}
+use Rattle.arc_compile.specs.Pieces.{padded, IsPiece}
 use Rattle.arc_compile.proofs.PathContents.{no_piece, piece_at, unit_at, item-at, form-at}
-use Rattle.arc_compile.proofs.PieceChoices.{AreApart, choice_of}
-use Rattle.arc_compile.proofs.PieceNumbers.{pieces-apart}
+use Rattle.arc_compile.proofs.HeldPieces.{AreApart, HoldPieces}
+use Rattle.arc_compile.proofs.PieceChoices.{choice_of}
 use Rattle.arc_compile.proofs.ExtendedWeights.{form_vector}
 
 -- the count is of this form
-abbrev is_form : ℕ → ℕ → Count → Bool
+abbrev pub is_form : ℕ → ℕ → Count → Bool
 is_form i f n = (n.item == i) && (n.form == f)
 
-is_form-from : (i f : ℕ) (n : Count) → n.item ≡ i → n.form ≡ f → is_form i f n ≡ true
+pub is_form-from : (i f : ℕ) (n : Count) → n.item ≡ i → n.form ≡ f → is_form i f n ≡ true
 is_form-from i f n item form = and_from (n.item == i) (n.form == f) (eq-eqb n.item i item) (eq-eqb n.form f form)
 
-is_form-parts : (i f : ℕ) (n : Count) → is_form i f n ≡ true → (n.item ≡ i) × (n.form ≡ f)
+pub is_form-parts : (i f : ℕ) (n : Count) → is_form i f n ≡ true → (n.item ≡ i) × (n.form ≡ f)
 is_form-parts i f n h = let both = and_parts (n.item == i) (n.form == f) h in (eqb-true n.item i both.0, eqb-true n.form f both.1)
 
 -- one more count
-count-more : (i f : ℕ) (n : Count) (c : Content) → count_of_form i f (n ∷ c) ≡ cond (is_form i f n) n.count 0 + count_of_form i f c
+pub count-more : (i f : ℕ) (n : Count) (c : Content) → count_of_form i f (n ∷ c) ≡ cond (is_form i f n) n.count 0 + count_of_form i f c
 count-more i f n c = sum_by-cons (λ (m : Count). cond (is_form i f m) m.count 0) n c
 
 module _ {N : ℕ} (pieces : List (Piece N)) where
   -- pieces of one form have one number
-  one_number : AllPairs AreApart pieces → (p q : ℕ) → IsKnown pieces (Carries p) → IsKnown pieces (Carries q) → (piece_at pieces p).item ≡ (piece_at pieces q).item → (piece_at pieces p).form ≡ (piece_at pieces q).form → p ≡ q
+  pub one_number : AllPairs AreApart pieces → (p q : ℕ) → IsKnown pieces (Carries p) → IsKnown pieces (Carries q) → (piece_at pieces p).item ≡ (piece_at pieces q).item → (piece_at pieces p).form ≡ (piece_at pieces q).form → p ≡ q
   one_number apart p q hp hq item form = elim (cases_order p q) [
     | inl e ↦ e
     | inr (inl lt) ↦ absurd (apart (p - 1) (q - 1) (no_piece pieces) (omega (arith, hp.0)) (omega (arith, hq.0, hq.1)) (item, form))
@@ -48,7 +48,7 @@ module _ {N : ℕ} (pieces : List (Piece N)) where
   ]
 
   -- a mark carries a unit of a piece's form where it carries the piece
-  mark-counts : AllPairs AreApart pieces → (p : ℕ) → IsKnown pieces (Carries p) → (m : Mark) (c : Content) → IsKnown pieces m → count_of_form (piece_at pieces p).item (piece_at pieces p).form (with_mark pieces m c) ≡ mark_copies p m + count_of_form (piece_at pieces p).item (piece_at pieces p).form c
+  pub mark-counts : AllPairs AreApart pieces → (p : ℕ) → IsKnown pieces (Carries p) → (m : Mark) (c : Content) → IsKnown pieces m → count_of_form (piece_at pieces p).item (piece_at pieces p).form (with_mark pieces m c) ≡ mark_copies p m + count_of_form (piece_at pieces p).item (piece_at pieces p).form c
   mark-counts apart p hp Loss c h = omega arith
   mark-counts apart p hp (Carries q) c h =
       let i = (piece_at pieces p).item in
@@ -77,7 +77,7 @@ module _ {N : ℕ} (pieces : List (Piece N)) where
       let rest = path-counts apart p hp path (All-tail (λ (x : GraphArc). IsKnown pieces x.mark) e path known) in
       omega arith
 
-  mark-none : (i f : ℕ) → All (λ q. ((q.item ≡ i) × (q.form ≡ f)) → ⊥) pieces → (m : Mark) (c : Content) → IsKnown pieces m → count_of_form i f (with_mark pieces m c) ≡ count_of_form i f c
+  pub mark-none : (i f : ℕ) → All (λ q. ((q.item ≡ i) × (q.form ≡ f)) → ⊥) pieces → (m : Mark) (c : Content) → IsKnown pieces m → count_of_form i f (with_mark pieces m c) ≡ count_of_form i f c
   mark-none i f none Loss c h = refl
   mark-none i f none (Carries q) c h =
       let n = unit_at pieces q in
@@ -93,7 +93,7 @@ module _ {N : ℕ} (pieces : List (Piece N)) where
       mark-none i f none e.mark (content_along pieces path) (All-head (λ (x : GraphArc). IsKnown pieces x.mark) e path known)
       ∙ path-none i f none path (All-tail (λ (x : GraphArc). IsKnown pieces x.mark) e path known)
 
-both_or_not : (a b i f : ℕ) → ((a ≡ i) × (b ≡ f)) ⊎ (((a ≡ i) × (b ≡ f)) → ⊥)
+pub both_or_not : (a b i f : ℕ) → ((a ≡ i) × (b ≡ f)) ⊎ (((a ≡ i) × (b ≡ f)) → ⊥)
 both_or_not a b i f =
     ⊎_elim
     (λ item. ⊎_elim (λ form. inl (item, form)) (λ form. inr (λ both. form both.1)) (cases_eq b f))
@@ -101,7 +101,7 @@ both_or_not a b i f =
     (cases_eq a i)
 
 -- the piece of a form, or none
-find_piece : {N : ℕ} (pieces : List (Piece N)) (d : Piece N) (i f : ℕ) → ((k : ℕ) × (k < length pieces) × ((get_or pieces k d).item ≡ i) × ((get_or pieces k d).form ≡ f)) ⊎ All (λ q. ((q.item ≡ i) × (q.form ≡ f)) → ⊥) pieces
+pub find_piece : {N : ℕ} (pieces : List (Piece N)) (d : Piece N) (i f : ℕ) → ((k : ℕ) × (k < length pieces) × ((get_or pieces k d).item ≡ i) × ((get_or pieces k d).form ≡ f)) ⊎ All (λ q. ((q.item ≡ i) × (q.form ≡ f)) → ⊥) pieces
 find_piece [] d i f = inr (λ k x lt. absurd (omega arith))
 find_piece (q ∷ pieces) d i f =
     ⊎_elim
@@ -113,9 +113,9 @@ find_piece (q ∷ pieces) d i f =
     (both_or_not q.item q.form i f))
     (find_piece pieces d i f)
 
-module _ {N : ℕ} (I : InstanceValue) (t : ℕ) (known : IsInstance I) (pieces : List (Piece N)) (are : ArePieces I t pieces) (c : Content) (fits : Fits I t c) (within : IsWithin I c) where
+module _ {N : ℕ} (I : InstanceValue) (t : ℕ) (known : IsInstance I) (pieces : List (Piece N)) (held : HoldPieces I t pieces) (c : Content) (fits : Fits I t c) (within : IsWithin I c) where
   -- a form of which there is a unit in the content is that of a piece
-  unit-piece : (k : ℕ) (d : Count) → k < length c → 0 < (get_or c k d).count → (q : Piece N) × Contains pieces q × (q.item ≡ (get_or c k d).item) × (q.form ≡ (get_or c k d).form)
+  pub unit-piece : (k : ℕ) (d : Count) → k < length c → 0 < (get_or c k d).count → (q : Piece N) × Contains pieces q × (q.item ≡ (get_or c k d).item) × (q.form ≡ (get_or c k d).form)
   unit-piece k d lt some =
       let n = get_or c k d in
       let exists = fits.exists k d lt in
@@ -137,10 +137,10 @@ module _ {N : ℕ} (I : InstanceValue) (t : ℕ) (known : IsInstance I) (pieces 
       in
       let q : Piece N = record { item = n.item; form = n.form; weight = padded N (extended_weight I n.item n.form); copies = (item_at I n.item).demand } in
       let is : IsPiece I t q = record { item_is = exists.item; form_is = exists.form; demanded = demand; fits = vector_fits-from v cap each; weighs = refl; copied = refl } in
-      (q, are.all q is, refl, refl)
+      (q, held.all q is, refl, refl)
 
   -- no unit of a form that no piece has
-  content-none : (i f : ℕ) → All (λ q. ((q.item ≡ i) × (q.form ≡ f)) → ⊥) pieces → count_of_form i f c ≡ 0
+  pub content-none : (i f : ℕ) → All (λ q. ((q.item ≡ i) × (q.form ≡ f)) → ⊥) pieces → count_of_form i f c ≡ 0
   content-none i f none =
       ⊎_elim
       (λ some.
@@ -172,7 +172,7 @@ module _ {N : ℕ} (I : InstanceValue) (t : ℕ) (known : IsInstance I) (pieces 
       let e : k + 1 - 1 ≡ k = omega arith in
       let item : (piece_at pieces (k + 1)).item ≡ i = ap (λ (j : ℕ). (get_or pieces j (no_piece pieces)).item) e ∙ found.2 in
       let form : (piece_at pieces (k + 1)).form ≡ f = ap (λ (j : ℕ). (get_or pieces j (no_piece pieces)).form) e ∙ found.3 in
-      let along : count_of_form (piece_at pieces (k + 1)).item (piece_at pieces (k + 1)).form (content_along pieces path) ≡ copies_along (k + 1) path = path-counts pieces (pieces-apart I t pieces are) (k + 1) (omega arith, omega arith) path marks in
+      let along : count_of_form (piece_at pieces (k + 1)).item (piece_at pieces (k + 1)).form (content_along pieces path) ≡ copies_along (k + 1) path = path-counts pieces held.apart (k + 1) (omega arith, omega arith) path marks in
       let there : count_of_form i f (content_along pieces path) ≡ copies_along (k + 1) path = subst₂ (λ (x y : ℕ). count_of_form x y (content_along pieces path) ≡ copies_along (k + 1) path) item form along in
       let number : get_or (choice_of pieces c) k 0 ≡ count_of_form q.item q.form c = get_or-map (λ (r : Piece N). count_of_form r.item r.form c) pieces k (no_piece pieces) 0 lt in
       let here : count_of_form q.item q.form c ≡ count_of_form i f c = ap₂ (λ (x y : ℕ). count_of_form x y c) found.2 found.3 in

@@ -14,34 +14,30 @@ use Rattle.label_graph.specs.declared.parts.Piece.{Piece}
 use Rattle.level_graph.specs.Levels.{piece_copies}
 use Rattle.level_graph.specs.LevelLaws.{content_weight, IsChoice}
 use Rattle.arc_compile.specs.Extended.{extended_in, extended_weight, extended_capacity}
-use Rattle.arc_compile.specs.Pieces.{padded, IsPiece, ArePieces}
+use Rattle.arc_compile.specs.Pieces.{padded}
 use Rattle.arc_compile.proofs.PathContents.{no_piece}
-use Rattle.arc_compile.proofs.PieceNumbers.{pieces-apart}
+use Rattle.arc_compile.proofs.HeldPieces.{IsFormPiece, AreApart, HoldPieces}
 use Rattle.arc_compile.proofs.ExtendedWeights.{within_capacity}
-
--- two pieces are of different forms
-abbrev pub AreApart : {N : ℕ} → Piece N → Piece N → Type 0
-AreApart p q = ((p.item ≡ q.item) × (p.form ≡ q.form)) → ⊥
 
 -- how many units of each piece are in a content
 abbrev pub choice_of : {N : ℕ} → List (Piece N) → Content → List ℕ
 choice_of pieces c = map (λ q. count_of_form q.item q.form c) pieces
 
-test-le : (a b : Bool) (n : ℕ) → cond (a && b) n 0 ≤ cond a n 0
+pub test-le : (a b : Bool) (n : ℕ) → cond (a && b) n 0 ≤ cond a n 0
 test-le true true n = omega arith
 test-le true false n = omega arith
 test-le false b n = omega arith
 
-form-le_item : (i f : ℕ) (c : Content) → count_of_form i f c ≤ count_of_item i c
+pub form-le_item : (i f : ℕ) (c : Content) → count_of_form i f c ≤ count_of_item i c
 form-le_item i f c = sum_by-le-sum_by (λ (n : Count). cond ((n.item == i) && (n.form == f)) n.count 0) (λ (n : Count). cond (n.item == i) n.count 0) c (λ n. test-le (n.item == i) (n.form == f) n.count)
 
 module _ {X : Type 0} where
-  sum-none : (f : X → ℕ) (xs : List X) → All (λ x. f x ≡ 0) xs → sum_by f xs ≡ 0
+  pub sum-none : (f : X → ℕ) (xs : List X) → All (λ x. f x ≡ 0) xs → sum_by f xs ≡ 0
   sum-none f xs none =
       let most : sum_by f xs ≤ length xs * 0 = sum_by-le f 0 xs (λ k d lt. let e : f (get_or xs k d) ≡ 0 = none k d lt in omega arith) in
       omega arith
 
-  sum-both : (f g : X → ℕ) (xs : List X) → sum_by (λ x. f x + g x) xs ≡ sum_by f xs + sum_by g xs
+  pub sum-both : (f g : X → ℕ) (xs : List X) → sum_by (λ x. f x + g x) xs ≡ sum_by f xs + sum_by g xs
   sum-both f g [] = refl
   sum-both f g (x ∷ xs) =
       let rest : sum_by (λ x. f x + g x) xs ≡ sum_by f xs + sum_by g xs = sum-both f g xs in
@@ -54,11 +50,11 @@ module _ {N : ℕ} (w : ℕ → ℕ → ℕ) where
   abbrev pub is_of : Count → Piece N → Bool
   is_of n q = (n.item == q.item) && (n.form == q.form)
 
-  is_of-parts : (n : Count) (q : Piece N) → is_of n q ≡ true → (n.item ≡ q.item) × (n.form ≡ q.form)
+  pub is_of-parts : (n : Count) (q : Piece N) → is_of n q ≡ true → (n.item ≡ q.item) × (n.form ≡ q.form)
   is_of-parts n q h = let both = and_parts (n.item == q.item) (n.form == q.form) h in (eqb-true n.item q.item both.0, eqb-true n.form q.form both.1)
 
   -- a count is of at most one of the pieces
-  count-once : (n : Count) (pieces : List (Piece N)) → AllPairs AreApart pieces → sum_by (λ q. cond (is_of n q) n.count 0 * w q.item q.form) pieces ≤ n.count * w n.item n.form
+  pub count-once : (n : Count) (pieces : List (Piece N)) → AllPairs AreApart pieces → sum_by (λ q. cond (is_of n q) n.count 0 * w q.item q.form) pieces ≤ n.count * w n.item n.form
   count-once n [] apart = omega arith
   count-once n (q ∷ pieces) apart =
       let f : Piece N → ℕ = λ q. cond (is_of n q) n.count 0 * w q.item q.form in
@@ -82,7 +78,7 @@ module _ {N : ℕ} (w : ℕ → ℕ → ℕ) where
       (cases_Bool (is_of n q))
 
   -- the units of the pieces are among those of the content
-  counts-le : (c : Content) (pieces : List (Piece N)) → AllPairs AreApart pieces → sum_by (λ q. count_of_form q.item q.form c * w q.item q.form) pieces ≤ sum_by (λ n. n.count * w n.item n.form) c
+  pub counts-le : (c : Content) (pieces : List (Piece N)) → AllPairs AreApart pieces → sum_by (λ q. count_of_form q.item q.form c * w q.item q.form) pieces ≤ sum_by (λ n. n.count * w n.item n.form) c
   counts-le [] pieces apart =
       let nothing : sum_by (λ (q : Piece N). 0 * w q.item q.form) pieces ≡ 0 = sum-none (λ (q : Piece N). 0 * w q.item q.form) pieces (λ k d lt. omega arith) in
       omega arith
@@ -104,20 +100,20 @@ module _ {N : ℕ} (w : ℕ → ℕ → ℕ) where
       omega arith
 
 -- the weight of a choice, as a sum
-choice-weight : {N : ℕ} (number : Piece N → ℕ) (d : ℕ) (pieces : List (Piece N)) → content_weight pieces d (map number pieces) ≡ sum_by (λ q. number q * get_or q.weight d 0) pieces
+pub choice-weight : {N : ℕ} (number : Piece N → ℕ) (d : ℕ) (pieces : List (Piece N)) → content_weight pieces d (map number pieces) ≡ sum_by (λ q. number q * get_or q.weight d 0) pieces
 choice-weight number d [] = refl
 choice-weight {N} number d (q ∷ pieces) =
     let rest : content_weight pieces d (map number pieces) ≡ sum_by (λ q. number q * get_or q.weight d 0) pieces = choice-weight number d pieces in
     let whole : sum_by (λ q. number q * get_or q.weight d 0) (q ∷ pieces) ≡ number q * get_or q.weight d 0 + sum_by (λ q. number q * get_or q.weight d 0) pieces = sum_by-cons (λ (r : Piece N). number r * get_or r.weight d 0) q pieces in
     omega arith
 
-module _ {N : ℕ} (I : InstanceValue) (t : ℕ) (known : IsInstance I) (pieces : List (Piece N)) (are : ArePieces I t pieces) where
+module _ {N : ℕ} (I : InstanceValue) (t : ℕ) (known : IsInstance I) (pieces : List (Piece N)) (held : HoldPieces I t pieces) where
   -- a piece weighs as its form
-  piece-weighs : (q : Piece N) → IsPiece I t q → (d : ℕ) → get_or q.weight d 0 ≡ get_or (extended_weight I q.item q.form) d 0
+  pub piece-weighs : (q : Piece N) → IsFormPiece I q → (d : ℕ) → get_or q.weight d 0 ≡ get_or (extended_weight I q.item q.form) d 0
   piece-weighs q h d = ap (λ (v : List ℕ). get_or v d 0) h.weighs ∙ get_or-padded (extended_weight I q.item q.form) (N - length (extended_weight I q.item q.form)) d
 
   -- a choice weighs no more than its content
-  choice-le_content : (d : ℕ) (c : Content) → content_weight pieces d (choice_of pieces c) ≤ extended_in I d c
+  pub choice-le_content : (d : ℕ) (c : Content) → content_weight pieces d (choice_of pieces c) ≤ extended_in I d c
   choice-le_content d c =
       let w : ℕ → ℕ → ℕ = λ i f. get_or (extended_weight I i f) d 0 in
       let number : Piece N → ℕ = λ q. count_of_form q.item q.form c in
@@ -125,10 +121,10 @@ module _ {N : ℕ} (I : InstanceValue) (t : ℕ) (known : IsInstance I) (pieces 
       let forms : sum_by (λ q. number q * get_or q.weight d 0) pieces ≤ sum_by (λ q. number q * w q.item q.form) pieces = sum-le_each (λ (q : Piece N). number q * get_or q.weight d 0) (λ (q : Piece N). number q * w q.item q.form) pieces (
       λ k x lt.
       let q = get_or pieces k x in
-      let same : number q * get_or q.weight d 0 ≡ number q * w q.item q.form = ap (λ (m : ℕ). number q * m) (piece-weighs q (are.each k x lt) d) in
+      let same : number q * get_or q.weight d 0 ≡ number q * w q.item q.form = ap (λ (m : ℕ). number q * m) (piece-weighs q (held.each k x lt) d) in
       omega arith
       ) in
-      let spread : sum_by (λ q. number q * w q.item q.form) pieces ≤ sum_by (λ n. n.count * w n.item n.form) c = counts-le w c pieces (pieces-apart I t pieces are) in
+      let spread : sum_by (λ q. number q * w q.item q.form) pieces ≤ sum_by (λ n. n.count * w n.item n.form) c = counts-le w c pieces held.apart in
       omega arith
 
   pub is_choice : (c : Content) → Fits I t c → IsWithin I c → IsChoice pieces (padded N (extended_capacity I t)) (choice_of pieces c)
@@ -136,7 +132,7 @@ module _ {N : ℕ} (I : InstanceValue) (t : ℕ) (known : IsInstance I) (pieces 
     whole = length-map pieces (λ (q : Piece N). count_of_form q.item q.form c);
     copies = λ p lt.
         let q = get_or pieces p (no_piece pieces) in
-        let is = are.each p (no_piece pieces) lt in
+        let is = held.each p (no_piece pieces) lt in
         let e : p ≡ p + 1 - 1 = omega arith in
         let number : get_or (choice_of pieces c) p 0 ≡ count_of_form q.item q.form c = get_or-map (λ (r : Piece N). count_of_form r.item r.form c) pieces p (no_piece pieces) 0 lt in
         let part : count_of_form q.item q.form c ≤ count_of_item q.item c = form-le_item q.item q.form c in

@@ -14,10 +14,11 @@ use Rattle.level_graph.specs.Levels.{IsPieceList}
 use Rattle.arc_compile.specs.Extended.{counted_by_caps, extended_weight, extended_capacity}
 use Rattle.arc_compile.specs.Pieces.{padded, IsPiece, ArePieces, piece_cmp}
 use Rattle.arc_compile.proofs.ExtendedWeights.{form_within}
+use Rattle.arc_compile.proofs.HeldPieces.{IsFormPiece, form_pieces}
 
-module _ {N : ℕ} (I : InstanceValue) (t : ℕ) where
+module _ {N : ℕ} (I : InstanceValue) where
   -- two pieces of one form are not in order
-  pub apart : (p q : Piece N) → IsPiece I t p → IsPiece I t q → piece_cmp p q ≡ Less → (p.item ≡ q.item) × (p.form ≡ q.form) → ⊥
+  pub apart : (p q : Piece N) → IsFormPiece I p → IsFormPiece I q → piece_cmp p q ≡ Less → (p.item ≡ q.item) × (p.form ≡ q.form) → ⊥
   apart p q hp hq less same =
       let weight : p.weight ≡ q.weight = hp.weighs ∙ (ap (λ (i : ℕ). padded N (extended_weight I i p.form)) same.0 ∙ (ap (λ (f : ℕ). padded N (extended_weight I q.item f)) same.1 ∙ sym hq.weighs)) in
       let by_weight : slice_cmp nat_cmp q.weight p.weight ≡ Equal = ap (slice_cmp nat_cmp q.weight) weight ∙ tied_itself nat_list_cmp_total q.weight in
@@ -27,21 +28,13 @@ module _ {N : ℕ} (I : InstanceValue) (t : ℕ) where
       cc
 
   -- the form of a piece
-  form_known : IsInstance I → (q : Piece N) → IsPiece I t q → IsForm I.dims (form_at I q.item q.form)
+  pub form_known : IsInstance I → (q : Piece N) → IsFormPiece I q → IsForm I.dims (form_at I q.item q.form)
   form_known known q h =
       let item : IsItem I.dims (item_at I q.item) = known.items (q.item - 1) (record { demand = 0; forms = [] }) (omega (arith, h.item_is.0, h.item_is.1)) in
       item.forms (q.form - 1) [] (omega (arith, h.form_is.0, h.form_is.1))
 
-  fit : IsInstance I → IsAmong t (length I.types) → (q : Piece N) → IsPiece I t q → AtMost q.weight (padded N (extended_capacity I t))
-  fit known among q h d =
-      let weight = extended_weight I q.item q.form in
-      let cap = extended_capacity I t in
-      let most : get_or weight d 0 ≤ get_or cap d 0 = form_within I known t among q.item q.form h.item_is h.form_is h.fits d in
-      let here : get_or q.weight d 0 ≡ get_or weight d 0 = ap (λ (w : List ℕ). get_or w d 0) h.weighs ∙ get_or-padded weight (N - length weight) d in
-      let room : get_or (padded N cap) d 0 ≡ get_or cap d 0 = get_or-padded cap (N - length cap) d in
-      omega arith
-
-  heavy : IsInstance I → (q : Piece N) → IsPiece I t q → IsZero q.weight → ⊥
+  -- each piece weighs something
+  pub heavy : IsInstance I → (q : Piece N) → IsFormPiece I q → IsZero q.weight → ⊥
   heavy known q h zero_weight =
       let v = form_at I q.item q.form in
       let weight = extended_weight I q.item q.form in
@@ -54,11 +47,23 @@ module _ {N : ℕ} (I : InstanceValue) (t : ℕ) where
       let none : get_or q.weight k 0 ≡ 0 = zero_weight k in
       omega arith
 
+module _ {N : ℕ} (I : InstanceValue) (t : ℕ) where
+  pub fit : IsInstance I → IsAmong t (length I.types) → (q : Piece N) → IsPiece I t q → AtMost q.weight (padded N (extended_capacity I t))
+  fit known among q h d =
+      let weight = extended_weight I q.item q.form in
+      let cap = extended_capacity I t in
+      let most : get_or weight d 0 ≤ get_or cap d 0 = form_within I known t among q.item q.form h.item_is h.form_is h.fits d in
+      let here : get_or q.weight d 0 ≡ get_or weight d 0 = ap (λ (w : List ℕ). get_or w d 0) h.weighs ∙ get_or-padded weight (N - length weight) d in
+      let room : get_or (padded N cap) d 0 ≡ get_or cap d 0 = get_or-padded cap (N - length cap) d in
+      omega arith
+
   pub is_piece_list : IsInstance I → IsAmong t (length I.types) → (pieces : List (Piece N)) → length pieces ≤ 8000 → ArePieces I t pieces → IsPieceList pieces (padded N (extended_capacity I t))
-  is_piece_list known among pieces few h = record {
-    few = few;
-    apart = λ i j d lt in_range. apart (get_or pieces i d) (get_or pieces j d) (h.each i d (omega arith)) (h.each j d in_range) (Less-from_sorted piece_cmp pieces i j d h.order lt in_range);
-    fit = λ k d lt. fit known among (get_or pieces k d) (h.each k d lt);
-    heavy = λ k d lt. heavy known (get_or pieces k d) (h.each k d lt);
-    copied = λ k d lt. let piece = h.each k d lt in omega (arith, piece.demanded, piece.copied);
-  }
+  is_piece_list known among pieces few h =
+      let each = form_pieces I t pieces h.each in
+      record {
+        few = few;
+        apart = λ i j d lt in_range. apart I (get_or pieces i d) (get_or pieces j d) (each i d (omega arith)) (each j d in_range) (Less-from_sorted piece_cmp pieces i j d h.order lt in_range);
+        fit = λ k d lt. fit known among (get_or pieces k d) (h.each k d lt);
+        heavy = λ k d lt. heavy I known (get_or pieces k d) (each k d lt);
+        copied = λ k d lt. let piece = h.each k d lt in omega (arith, piece.demanded, piece.copied);
+      }

@@ -21,14 +21,14 @@ use Rattle.arc_compile.specs.inner.Ranks.{form_of, AddsForms, AreRanked, rank_cm
 use Rattle.arc_compile.proofs.RankLemmas.{same_rank, forms_push, forms_skip, items_push, items_skip, are_pieces}
 
 module _ {N : ℕ} where
-  rank_total : IsTotalOrder (rank_cmp {N = N})
+  pub rank_total : IsTotalOrder (rank_cmp {N = N})
   rank_total = then_total (back_total (on_total (λ (r : Ranked N). r.weight.0) nat_list_cmp_total)) (then_total (on_total (λ (r : Ranked N). r.item) nat_cmp_total) (on_total (λ (r : Ranked N). r.form) nat_cmp_total))
 
-  abbrev RankBefore : Ranked N → Ranked N → Type 0
+  abbrev pub RankBefore : Ranked N → Ranked N → Type 0
   RankBefore p q = rank_cmp p q ≡ Less
 
   -- ranks of one weight stand by item and form
-  by_number : (p q : Ranked N) → p.weight.0 ≡ q.weight.0 → RankBefore p q ⊎ ((p ≡ q) ⊎ RankBefore q p)
+  pub by_number : (p q : Ranked N) → p.weight.0 ≡ q.weight.0 → RankBefore p q ⊎ ((p ≡ q) ⊎ RankBefore q p)
   by_number p q weight =
       let there : slice_cmp nat_cmp q.weight.0 p.weight.0 ≡ Equal = ap (slice_cmp nat_cmp q.weight.0) weight ∙ tied_itself nat_list_cmp_total q.weight.0 in
       let back : slice_cmp nat_cmp p.weight.0 q.weight.0 ≡ Equal = ap (slice_cmp nat_cmp p.weight.0) (sym weight) ∙ tied_itself nat_list_cmp_total p.weight.0 in
@@ -42,21 +42,21 @@ module _ {N : ℕ} where
         | inr (inr gt) ↦ inr (inr (rw (back, number-before q.item p.item gt) refl))
       ]
 
-  rank-compare : (p q : Ranked N) → RankBefore p q ⊎ ((p ≡ q) ⊎ RankBefore q p)
+  pub rank-compare : (p q : Ranked N) → RankBefore p q ⊎ ((p ≡ q) ⊎ RankBefore q p)
   rank-compare p q =
       ⊎_elim
       (λ heavier. inl (rw heavier refl))
       (λ other. ⊎_elim (λ same. by_number p q (sym same)) (λ lighter. inr (inr (rw lighter refl))) other)
       (before-compare q.weight.0 p.weight.0)
 
-  sorted_from_pairs : (ranked : List (Ranked N)) → AllPairs RankBefore ranked → IsStrictlySortedBy rank_cmp ranked
+  pub sorted_from_pairs : (ranked : List (Ranked N)) → AllPairs RankBefore ranked → IsStrictlySortedBy rank_cmp ranked
   unfolding IsStrictlySortedBy
   sorted_from_pairs [] up = tt
   sorted_from_pairs (r ∷ ranked) up =
       (recursion_from_All (λ (q : Ranked N). RankBefore r q) ranked (λ k d lt. up zero (suc k) d (omega arith) (omega arith)), sorted_from_pairs ranked (rest-up RankBefore r ranked up))
 
   -- the first forms of an item that fit
-  forms_exist : (i : ℕ) (x : Item) (cap further : List ℕ) (old : List (Ranked N)) (f : ℕ) → (new : List (Ranked N)) × AddsForms i x cap further f old new
+  pub forms_exist : (i : ℕ) (x : Item) (cap further : List ℕ) (old : List (Ranked N)) (f : ℕ) → (new : List (Ranked N)) × AddsForms i x cap further f old new
   forms_exist i x cap further old zero = (old, λ r. (λ m. inl m, λ m. ⊎_elim (λ there. there) (λ k. absurd (omega (arith, k.form_is.0, k.form_is.1))) m))
   forms_exist i x cap further old (suc f) =
       let so_far = forms_exist i x cap further old f in
@@ -70,7 +70,7 @@ module _ {N : ℕ} where
       (cases_Bool (vector_fits (form_of x (f + 1)) cap))
 
   -- the forms of the first items that fit a type
-  ranks_exist : (I : InstanceValue) (t i : ℕ) → (ranked : List (Ranked N)) × AreRanked I t i ranked
+  pub ranks_exist : (I : InstanceValue) (t i : ℕ) → (ranked : List (Ranked N)) × AreRanked I t i ranked
   ranks_exist I t zero = ([], λ r. (λ m. absurd (let lt : m.0 < 0 = m.1 in omega arith), λ k. absurd (omega (arith, k.item_is.0, k.item_is.1))))
   ranks_exist I t (suc i) =
       let old = ranks_exist I t i in

@@ -36,10 +36,10 @@ item_by_place I i x lt e =
     ap (λ (k : ℕ). get_or I.items k (record { demand = 0; forms = [] })) n ∙ (get_or_default I.items i (record { demand = 0; forms = [] }) x lt ∙ sym e)
 
 module _ {N : ℕ} where
-  more_forms : (i : ℕ) (x : Item) (cap further : List ℕ) (f : ℕ) (r : Ranked N) → IsRankedOf i x cap further f r → IsRankedOf i x cap further (f + 1) r
+  pub more_forms : (i : ℕ) (x : Item) (cap further : List ℕ) (f : ℕ) (r : Ranked N) → IsRankedOf i x cap further f r → IsRankedOf i x cap further (f + 1) r
   more_forms i x cap further f r h = record { item_is = h.item_is; form_is = (h.form_is.0, omega (arith, h.form_is.1)); fits = h.fits; weighs = h.weighs }
 
-  fewer_forms : (i : ℕ) (x : Item) (cap further : List ℕ) (f : ℕ) (r : Ranked N) → r.form ≤ f → IsRankedOf i x cap further (f + 1) r → IsRankedOf i x cap further f r
+  pub fewer_forms : (i : ℕ) (x : Item) (cap further : List ℕ) (f : ℕ) (r : Ranked N) → r.form ≤ f → IsRankedOf i x cap further (f + 1) r → IsRankedOf i x cap further f r
   fewer_forms i x cap further f r l h = record { item_is = h.item_is; form_is = (h.form_is.0, l); fits = h.fits; weighs = h.weighs }
 
   -- ranks of equal parts are equal
@@ -93,7 +93,7 @@ module _ {N : ℕ} where
           let e : r.form ≡ f + 1 = omega (arith, k.form_is.1) in
           false≢true (sym unfit ∙ subst (λ (g : ℕ). vector_fits (form_of x g) cap ≡ true) e k.fits)
 
-  more_items : (I : InstanceValue) (t i : ℕ) (r : Ranked N) → IsRanked I t i r → IsRanked I t (i + 1) r
+  pub more_items : (I : InstanceValue) (t i : ℕ) (r : Ranked N) → IsRanked I t i r → IsRanked I t (i + 1) r
   more_items I t i r h = record { item_is = (h.item_is.0, omega (arith, h.item_is.1)); demanded = h.demanded; ranked = h.ranked }
 
   -- one more item with a demand
@@ -140,14 +140,14 @@ module _ {N : ℕ} where
           omega arith
 
 -- what a function gives of a member is a member of what it gives
-contains_map : {X Y : Type 0} (f : X → Y) (xs : List X) (x : X) → Contains xs x → Contains (map f xs) (f x)
+pub contains_map : {X Y : Type 0} (f : X → Y) (xs : List X) (x : X) → Contains xs x → Contains (map f xs) (f x)
 contains_map f xs x m =
     let lt : m.0 < length xs = m.1 in
     (m.0, omega (arith, length-map xs f), get_or-map f xs m.0 x (f x) lt ∙ ap f m.2)
 
 -- the ranks of a type, as pieces
 module _ {N : ℕ} (I : InstanceValue) where
-  above : (r : Ranked N) (ranked : List (Ranked N)) → AllByRecursion (λ q. rank_cmp r q ≡ Less) ranked → AllByRecursion (λ q. piece_cmp (piece_from I r) q ≡ Less) (map (piece_from I) ranked)
+  pub above : (r : Ranked N) (ranked : List (Ranked N)) → AllByRecursion (λ q. rank_cmp r q ≡ Less) ranked → AllByRecursion (λ q. piece_cmp (piece_from I r) q ≡ Less) (map (piece_from I) ranked)
   above r [] h = h
   above r (q ∷ ranked) h = (h.0, above r ranked h.1)
 
@@ -157,17 +157,17 @@ module _ {N : ℕ} (I : InstanceValue) where
   pieces_in_order [] h = h
   pieces_in_order (r ∷ ranked) h = (above r ranked h.0, pieces_in_order ranked h.1)
 
-  is_piece : (t : ℕ) (r : Ranked N) → IsRanked I t (length I.items) r → IsPiece I t (piece_from I r)
+  pub is_piece : (t : ℕ) (r : Ranked N) → IsRanked I t (length I.items) r → IsPiece I t (piece_from I r)
   is_piece t r h = record { item_is = h.item_is; form_is = h.ranked.form_is; demanded = h.demanded; fits = h.ranked.fits; weighs = h.ranked.weighs; copied = refl }
 
-  rank_of : Piece N → Ranked N
+  pub rank_of : Piece N → Ranked N
   rank_of q = record { weight = record { 0 = q.weight }; item = q.item; form = q.form }
 
-  is_rank : (t : ℕ) (q : Piece N) → IsPiece I t q → IsRanked I t (length I.items) (rank_of q)
+  pub is_rank : (t : ℕ) (q : Piece N) → IsPiece I t q → IsRanked I t (length I.items) (rank_of q)
   unfolding rank_of
   is_rank t q h = record { item_is = h.item_is; demanded = h.demanded; ranked = record { item_is = refl; form_is = h.form_is; fits = h.fits; weighs = h.weighs } }
 
-  piece_again : (t : ℕ) (q : Piece N) → IsPiece I t q → piece_from I (rank_of q) ≡ q
+  pub piece_again : (t : ℕ) (q : Piece N) → IsPiece I t q → piece_from I (rank_of q) ≡ q
   unfolding rank_of
   piece_again t q h = λ k. record { item = q.item; form = q.form; weight = q.weight; copies = (sym h.copied) k }
 

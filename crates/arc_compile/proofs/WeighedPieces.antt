@@ -12,14 +12,14 @@ use Rattle.arc_compile.specs.Extended.{places_of, extended_weight, extended_capa
 use Rattle.arc_compile.specs.Pieces.{padded, IsPiece}
 use Rattle.arc_compile.proofs.ExtendedWeights.{weight_vector, capacity_vector}
 
-padded-sized : (n N : ℕ) (v : List ℕ) → IsVector n v → n ≤ N → length (padded N v) ≡ N
+pub padded-sized : (n N : ℕ) (v : List ℕ) → IsVector n v → n ≤ N → length (padded N v) ≡ N
 padded-sized n N v h le =
     let zeros : List ℕ = replicate (N - length v) 0 in
     let count : length zeros ≡ N - length v = length-replicate (N - length v) 0 in
     let whole : length (padded N v) ≡ length v + length zeros = length-append v zeros in
     omega (arith, h.size)
 
-padded-ranged : (n N : ℕ) (v : List ℕ) → IsVector n v → IsInRange (padded N v)
+pub padded-ranged : (n N : ℕ) (v : List ℕ) → IsVector n v → IsInRange (padded N v)
 padded-ranged n N v h d =
     let same : get_or (padded N v) d 0 ≡ get_or v d 0 = get_or-padded v (N - length v) d in
     ⊎_elim
@@ -28,7 +28,7 @@ padded-ranged n N v h d =
     (cases_lt d (length v))
 
 module _ {N : ℕ} (I : InstanceValue) (t : ℕ) (known : IsInstance I) (among : IsAmong t (length I.types)) (wide : places_of I ≤ N) where
-  piece_vector : (q : Piece N) → IsPiece I t q → IsVector (places_of I) (extended_weight I q.item q.form)
+  pub piece_vector : (q : Piece N) → IsPiece I t q → IsVector (places_of I) (extended_weight I q.item q.form)
   piece_vector q h = weight_vector I known q.item q.form h.item_is h.form_is
 
   pub are_weighed : N ≤ 32 → (pieces : List (Piece N)) → All (IsPiece I t) pieces → AreWeighed pieces (padded N (extended_capacity I t))

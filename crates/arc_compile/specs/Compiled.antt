@@ -20,12 +20,16 @@ pub record AreNamed {N : ℕ} (pieces : List (Piece N)) : Type 0 where
   pub items : All (λ q. (1 ≤ q.item) × (1 ≤ q.form)) pieces
   pub apart : AllPairs (λ p q. ((p.item ≡ q.item) × (p.form ≡ q.form)) → ⊥) pieces
 
+-- these are the arcs by tail, head, item and form
+pub record AreNumbered {N : ℕ} (pieces : List (Piece N)) (arcs : List GraphArc) (numbered : List TypeArc) : Type 0 where
+  pub ordered : AllPairs ArcBefore numbered
+  pub count : length numbered ≡ length arcs
+  pub same : (a : TypeArc) → Contains numbered a ↔ ((e : GraphArc) × Contains arcs e × (type_arc pieces e ≡ a))
+
 -- the type has the nodes of the graph, and its arcs by tail, head, item and form
 pub record IsNumberedType {N : ℕ} (g : GraphValue N) (x : TypeValue) : Type 0 where
   pub nodes : x.nodes ≡ length g.labels
-  pub ordered : AllPairs ArcBefore x.arcs
-  pub count : length x.arcs ≡ length g.arcs
-  pub arcs : (a : TypeArc) → Contains x.arcs a ↔ ((e : GraphArc) × Contains g.arcs e × (type_arc g.pieces e ≡ a))
+  pub arcs : AreNumbered g.pieces g.arcs x.arcs
 
 -- the numbers of nodes and arcs of a main and a final graph
 pub record AreSizes {N : ℕ} (main final : GraphValue N) (size : TypeSize) : Type 0 where

@@ -1,13 +1,13 @@
 //! The arcs of a graph with items and forms in place of pieces.
 
-ghost use Rattle.std.specs.Prelude.{◌≡◌, ◌≤◌, ◌<◌, ◌^◌, All, AllPairs, IfOk, length};
-ghost use Rattle.label_graph.specs.Graph.{IsKnown};
+ghost use Rattle.std.specs.Prelude.{◌≡◌, ◌≤◌, ◌<◌, ◌^◌, All, AllPairs, IfOk};
+ghost use Rattle.label_graph.specs.Graph.{ArcBefore, IsKnown};
 ghost use Rattle.arc_compile.specs.Exact.{marked_item, marked_form};
-ghost use Rattle.arc_compile.specs.Compiled.{type_arc, IsNumberedType, AreNamed};
+ghost use Rattle.arc_compile.specs.Compiled.{type_arc, AreNamed, AreNumbered};
 
 use arc_num::Memory;
 use flow_graph::TypeArc;
-use label_graph::{Graph, GraphArc, Mark, Piece};
+use label_graph::{GraphArc, Mark, Piece};
 use std::alloc::Global;
 
 /// The item and the form that a mark carries, zeros where it carries none.
@@ -42,21 +42,23 @@ fn numbered_arc<const N: usize>(pieces: &[Piece<N>], arc: &GraphArc) -> TypeArc
     }
 }
 
-/// The arcs of a graph by tail, head, item and form.
+/// The arcs of a graph by tail, head, item and form, which stand in place of their pieces.
 pub fn numbered_arcs<const N: usize>(
     alloc: Global,
-    graph: &Graph<N>,
+    pieces: &[Piece<N>],
+    arcs: &[GraphArc],
 ) -> Result<Vec<TypeArc>, Memory>
     requires small { N ≤ 32 }
-    requires few { length graph.now.labels < 2 ^ 32 }
-    requires named { AreNamed graph.now.pieces }
-    ensures { IfOk result (λ arcs. IsNumberedType graph.now (record { nodes = length graph.now.labels; arcs = arcs.items })) }
+    requires named { AreNamed pieces.now }
+    requires known { All (λ e. IsKnown pieces.now e.mark) arcs.now }
+    requires ordered { AllPairs ArcBefore arcs.now }
+    requires few { All (λ e. (e.tail < 2 ^ 32) × (e.head < 2 ^ 32)) arcs.now }
+    ensures { IfOk result (λ numbered. AreNumbered pieces.now arcs.now numbered.items) }
 {
-    graph.known();
-    let mut arcs = Vec::with_capacity(alloc, graph.arcs().len())?;
-    for arc in graph.arcs() {
-        arcs.push(numbered_arc(graph.pieces(), arc))?;
+    let mut numbered = Vec::with_capacity(alloc, arcs.len())?;
+    for arc in arcs {
+        numbered.push(numbered_arc(pieces, arc))?;
     }
-    arcs.sort_unstable();
-    Ok(arcs)
+    numbered.sort_unstable();
+    Ok(numbered)
 }

@@ -24,7 +24,8 @@ fn demand_of(instance: &Instance, item: u32) -> u32
     }
 }
 
-fn with_copies<const N: usize>(
+/// The pieces of ranked forms, with a copy for each unit that is asked for.
+pub fn with_copies<const N: usize>(
     alloc: Global,
     instance: &Instance,
     ranked: &[Ranked<N>],

@@ -86,7 +86,7 @@ fn number_final<const N: usize>(alloc: Global, main: &Graph<N>) -> Result<Compil
     let last = compress_final(alloc, main)?;
     last.known();
     let size = size_of(main, &last);
-    let arcs = numbered_arcs(alloc, &last)?;
+    let arcs = numbered_arcs(alloc, last.pieces(), last.arcs())?;
     Ok(CompiledType {
         nodes: size.final_nodes,
         arcs,

@@ -3,4 +3,4 @@ use Rattle.arc_compile.specs.Compiled.{type_arc}
 use Rattle.arc_compile.proofs.numbered.numbered_arcs.Given as goal
 
 abbrev pub invariant-loop-arc : goal.invariant-loop-arc
-invariant-loop-arc g l = l.arcs.items ≡ map (type_arc l.graph.pieces) (take l.arc-index l.graph.arcs)
+invariant-loop-arc g l = l.numbered.items ≡ map (type_arc l.pieces) (take l.arc-index l.arcs)
