@@ -1,0 +1,4 @@
+pub mod Joined
+pub mod Faithful
+pub mod Flows
+pub mod inner

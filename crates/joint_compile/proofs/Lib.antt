@@ -1,0 +1,9 @@
+pub mod TypeCaps
+pub mod UnionRanks
+pub mod UnionPieces
+pub mod Widths
+pub mod NumberedJoints
+pub mod FaithfulJoints
+pub mod Assembled
+pub mod OneJoint
+pub mod JointsExist

@@ -1,0 +1,4 @@
+pub mod JointPieces
+pub mod JointCompiled
+pub mod JointLaws
+pub mod inner

@@ -1,0 +1,3 @@
+pub mod JointRows
+pub mod Packed
+pub mod inner

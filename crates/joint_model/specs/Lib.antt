@@ -1,0 +1,2 @@
+pub mod JointModels
+pub mod inner

@@ -1,0 +1,2 @@
+pub mod WorkedGraph
+pub mod SameParts

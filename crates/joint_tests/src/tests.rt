@@ -1,0 +1,5 @@
+mod fixtures;
+mod flows;
+mod graphs;
+mod models;
+mod packings;
