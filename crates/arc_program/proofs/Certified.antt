@@ -79,10 +79,12 @@ module _ (name certificate : List ℕ) (mvp : Bool) (workers : ℕ) (I : Instanc
   -- the certificate could not be judged
   pub stopped_works : (fault : IoFault) (r : WorkFault) → Judged I g certificate (Err fault) before after → Stops certificate fault r → Works request I before after (Err r)
   stopped_works io.Failed (work.Large t) judged stops = absurd stops
+  stopped_works io.Failed work.LargeJoint judged stops = absurd stops
   stopped_works io.Failed (work.Unread unread) judged stops = (text_of, refl, stops, judged.0, undecided judged.1)
   stopped_works io.Failed (work.Rejected line status) judged stops = absurd stops
   stopped_works io.Failed work.Memory judged stops = inr (text_of, refl, may_have_failed certificate MAX_CERT before after judged.0)
   stopped_works io.Memory (work.Large t) judged stops = absurd stops
+  stopped_works io.Memory work.LargeJoint judged stops = absurd stops
   stopped_works io.Memory (work.Unread unread) judged stops = absurd stops
   stopped_works io.Memory (work.Rejected line status) judged stops = absurd stops
   stopped_works io.Memory work.Memory judged stops = inr (text_of, refl, judged)

@@ -94,7 +94,7 @@ decides : (request : Request) (before after : World) (made : Option Certificate)
 decides (Compiles name mvp workers) before after made status r = r.owed.report.1
 decides (Solves name mvp nodes certificate workers) before after made status r = solve_decided name mvp nodes workers certificate before after made status r
 decides (Checks name certificate mvp workers) before after made status r = r.owed.report.1
-decides (Exports name mvp) before after made status r = r.owed.report.1
+decides (Exports name mvp joint) before after made status r = r.owed.report.1
 decides (Extracts name solution mvp) before after made status r = r.owed.report.1
 decides (Bounds name mvp certificate) before after made status r = r.owed.report.1
 decides (Makes seed size nodes workers) before after made status r = make_decided seed size nodes workers before after made status r

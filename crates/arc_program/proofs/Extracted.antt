@@ -112,6 +112,7 @@ module _ (name solution : List ℕ) (mvp : Bool) (I : InstanceValue) (before aft
   pub judged_works : IsSmall I → (bytes : List ℕ) (r : Result Report WorkFault) → Loads solution (Ok bytes) before after → Judges I solution bytes r → Works request I before after r
   judged_works small bytes (Ok report) loads judged = (judged.0, (extracted_told I bytes (before.held solution) report.status report.text loads.1 judged.1, judged.2), loads.2, judged.3)
   judged_works small bytes (Err (work.Large t)) loads judged = absurd judged
+  judged_works small bytes (Err work.LargeJoint) loads judged = absurd judged
   judged_works small bytes (Err (work.Unread unread)) loads judged = absurd judged
   judged_works small bytes (Err (work.Rejected line status)) loads judged =
       subst (λ (s : Status). Works request I before after (Err (work.Rejected line s))) (sym judged.0)

@@ -21,3 +21,4 @@ pub mod Decided
 pub mod ExactLemmas
 pub mod ReportLemmas
 pub mod Exported
+pub mod JointExported

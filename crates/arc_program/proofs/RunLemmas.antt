@@ -4,7 +4,7 @@ use Rattle.arc_io.specs.declared.IoFault.TheVariants as io
 use Rattle.cert_text.specs.declared.lines.Certificate.{Certificate}
 use Rattle.arc_program.specs.declared.performing.Finished.{Finished}
 use Rattle.arc_program.specs.declared.refusals.Refusal.{Refusal}
-use Rattle.arc_program.specs.declared.refusals.Refusal.TheVariants.{Words, Unread, Long, BadPlace, Large, Rejected, Unstored, Unwritten, Memory}
+use Rattle.arc_program.specs.declared.refusals.Refusal.TheVariants.{Words, Unread, Long, BadPlace, Large, LargeJoint, Rejected, Unstored, Unwritten, Memory}
 use Rattle.arc_program.specs.declared.status.Status.{Status}
 use Rattle.arc_program.specs.declared.status.Status.TheVariants.{Done, Bracketed, Usage, BadInstance, BadCertificate, ReadFault as ReadFaults, WriteFault, NoMemory, TooLarge, BadSolution}
 use Rattle.command_words.specs.declared.faults.WordFault.{WordFault}
@@ -13,7 +13,7 @@ use Rattle.arc_program.specs.World.{ShelfSeen, SinkSeen, World}
 use Rattle.arc_program.specs.Printing.{Line, PutsOnce}
 use Rattle.arc_program.specs.Writing.{HasFailedToWrite, MayHaveWritten}
 use Rattle.command_words.specs.Lines.{word_fault_line}
-use Rattle.arc_program.specs.Refusals.{long_line, place_line, large_line, unstored_line, memory_line, refusal_line, refusal_status}
+use Rattle.arc_program.specs.Refusals.{long_line, place_line, large_line, large_joint_line, unstored_line, memory_line, refusal_line, refusal_status}
 use Rattle.arc_program.specs.Requests.{Writes}
 use Rattle.arc_program.specs.Statuses.{IsReported}
 use Rattle.arc_program.specs.Ends.{Answers, Ends, KeepsTo, Starves, MayHaveDoneAll}
@@ -86,6 +86,7 @@ module _ (request : Request) (before after : ShelfSeen) (old new e0 e1 : SinkSee
   unsaid_ends (Long name) status done is said not = lacks (inl (inl (may_have_read_instance request before after done.3))) done.4 said
   unsaid_ends (BadPlace name fault) status done is said not = lacks (inl (inl (may_have_read_instance request before after done.3))) done.4 said
   unsaid_ends (Large name t) status done is said not = lacks (inl (inl (may_have_read_instance request before after done.2))) done.3 said
+  unsaid_ends (LargeJoint name) status done is said not = lacks (inl (inl (may_have_read_instance request before after done.2))) done.3 said
   unsaid_ends (Rejected line refused) status done is said not = lacks (inl (may_have_read_second request done.0.text before after done.0.shelf)) done.1 said
   unsaid_ends (Unstored name) status done is said not =
       lacks
@@ -128,7 +129,7 @@ module _ (request : Request) (before after : ShelfSeen) (old new e0 e1 : SinkSee
     unprinted = done.4;
     said = said;
   }
-  said_ends (Large name t) done said = record {
+  said_ends (Large name t) done said = inl (record {
     makes = done.1.makes;
     instance = done.1.instance;
     given = done.1.given;
@@ -137,7 +138,16 @@ module _ (request : Request) (before after : ShelfSeen) (old new e0 e1 : SinkSee
     shelf = done.2;
     unprinted = done.3;
     said = subst (λ (n : List ℕ). PutsOnce (large_line n t) e0 e1) done.0 said;
-  }
+  })
+  said_ends (LargeJoint name) done said = inr (record {
+    makes = done.1.makes;
+    instance = done.1.instance;
+    given = done.1.given;
+    large = done.1.large;
+    shelf = done.2;
+    unprinted = done.3;
+    said = subst (λ (n : List ℕ). PutsOnce (large_joint_line n) e0 e1) done.0 said;
+  })
   said_ends (Rejected line status) done said = second_ends line status (subst IsForSecond done.0.refused (for_second request done.0.text done.0.shelf.second)) done.0 done.1 said
   said_ends (Unstored name) done said = inl (record {
     text = done.0.text;
@@ -166,6 +176,7 @@ words_end fault shelf out e0 e1 (Unread name) status done (inl s) = absurd done
 words_end fault shelf out e0 e1 (Long name) status done (inl s) = absurd done
 words_end fault shelf out e0 e1 (BadPlace name place) status done (inl s) = absurd done
 words_end fault shelf out e0 e1 (Large name t) status done (inl s) = absurd done
+words_end fault shelf out e0 e1 (LargeJoint name) status done (inl s) = absurd done
 words_end fault shelf out e0 e1 (Rejected line refused) status done (inl s) = absurd done
 words_end fault shelf out e0 e1 (Unstored name) status done (inl s) = absurd done
 words_end fault shelf out e0 e1 Unwritten status done (inl s) = absurd done

@@ -52,7 +52,7 @@ may_have_refused : (request : Request) (name : List ℕ) (most : ℕ) (before af
 may_have_refused (Compiles _ _ _) name most before after read = may_have_read name most before after read
 may_have_refused (Solves _ _ _ _ _) name most before after read = may_have_read name most before after read
 may_have_refused (Checks _ _ _ _) name most before after took = may_have_taken name most before after took
-may_have_refused (Exports _ _) name most before after read = may_have_read name most before after read
+may_have_refused (Exports _ _ _) name most before after read = may_have_read name most before after read
 may_have_refused (Extracts _ _ _) name most before after read = may_have_read name most before after read
 may_have_refused (Bounds _ _ _) name most before after read = may_have_read name most before after read
 may_have_refused (Makes _ _ _ _) name most before after read = may_have_read name most before after read
@@ -107,6 +107,7 @@ module _ (request : Request) (before between after : ShelfSeen) (read : HasReadI
   -- whatever the work on the instance came to
   pub may_have_worked : (I : InstanceValue) (fault : WorkFault) → Works request I between after (Err fault) → MayHaveReadAll request before after
   may_have_worked I (work.Large t) works = may_have_all (inl works.2)
+  may_have_worked I work.LargeJoint works = may_have_all (inl works.2)
   may_have_worked I (work.Unread name) works = may_have_all (inr (works.0, works.1, may_have_failed works.0.name works.0.most between after works.3))
   may_have_worked I (work.Rejected line status) works = may_have_all (inr (works.text, works.second, may_have_refused request works.text.name works.text.most between after works.shelf))
   may_have_worked I work.Memory works = may_have_all works

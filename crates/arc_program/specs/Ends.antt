@@ -8,6 +8,7 @@ use Rattle.packing_laws.specs.Instances.{InstanceValue}
 use Rattle.flow_graph.specs.Arcs.{TypeValue}
 use Rattle.cert_text.specs.declared.lines.Certificate.{Certificate}
 use Rattle.arc_compile.specs.Graphs.{IsSmall, IsTooLarge}
+use Rattle.joint_compile.specs.JointCompiled.{IsJointLarge}
 use Rattle.command_words.specs.declared.faults.WordFault.{WordFault}
 use Rattle.arc_program.specs.declared.status.Status.{Status}
 use Rattle.arc_program.specs.declared.status.Status.TheVariants.{Done, Bracketed, Usage, BadInstance, BadCertificate, ReadFault as ReadFaults, WriteFault, NoMemory, TooLarge, BadSolution}
@@ -20,8 +21,8 @@ use Rattle.arc_program.specs.Writing.{HasFailedToWrite, MayHaveWritten, WriteRos
 use Rattle.arc_program.specs.Stored.{ThenWrites, HasDoneAll}
 use Rattle.arc_program.specs.Printing.{Line, PutsOnce, PutsText, CutsOff}
 use Rattle.command_words.specs.Lines.{word_fault_line}
-use Rattle.arc_program.specs.Refusals.{unread_line, long_line, place_line, large_line, unstored_line, output_line, memory_line}
-use Rattle.command_words.specs.Requests.{name_of, certificate_of, MakesGraphs}
+use Rattle.arc_program.specs.Refusals.{unread_line, long_line, place_line, large_line, large_joint_line, unstored_line, output_line, memory_line}
+use Rattle.command_words.specs.Requests.{name_of, certificate_of, MakesGraphs, MakesJoint}
 use Rattle.arc_program.specs.Requests.{Writes, ReadsInstance, IsGiven, IsLong, IsBadAt, IsAsked, IsGood, HasNoInstance}
 use Rattle.arc_program.specs.Statuses.{IsReported}
 use Rattle.arc_program.specs.commands.{IsReport, IsRejection, IsFit, StopsUndecided, IsBeside}
@@ -70,6 +71,16 @@ pub record RefusesGraphs (request : Request) (before after : World) : Type 0 whe
   pub shelf : HasReadInstance request before.shelf after.shelf
   pub unprinted : after.out ≡ before.out
   pub said : PutsOnce (large_line (name_of request) t) before.err after.err
+
+-- the graph for all types is too large; nothing was printed, and that was said
+pub record RefusesJoint (request : Request) (before after : World) : Type 0 where
+  pub makes : MakesJoint request
+  pub instance : InstanceValue
+  pub given : IsGiven request before.shelf.held instance
+  pub large : IsJointLarge instance
+  pub shelf : HasReadInstance request before.shelf after.shelf
+  pub unprinted : after.out ≡ before.out
+  pub said : PutsOnce (large_joint_line (name_of request)) before.err after.err
 
 -- the line says why the second text is refused for the instance that was read, which is small where graphs are made of it
 pub record IsOwedRejection (request : Request) (text : TextValue) (shelf : ShelfSeen) (line : Line) : Type 0 where
@@ -179,7 +190,7 @@ Answers request before after made BadCertificate = RefusesSecond request before 
 Answers request before after made ReadFaults = CannotRead request before after
 Answers request before after made WriteFault = CannotWrite request before after
 Answers request before after made NoMemory = LacksMemory request before after
-Answers request before after made TooLarge = RefusesGraphs request before after
+Answers request before after made TooLarge = RefusesGraphs request before after ⊎ RefusesJoint request before after
 Answers request before after made BadSolution = RefusesSecond request before after BadSolution
 
 -- how a run ends whose words have this fault: it says so, or lacks memory; nothing is read and nothing printed
@@ -219,6 +230,7 @@ HasFit request held I (Some text) = IsSomeAnd (held text.name) (IsFit request I)
 pub record MustEnd (request : Request) (before after : World) (status : Status) : Type 0 where
   pub refused : HasNoInstance request before.shelf.held → ComesOut BadInstance status
   pub large : (I : InstanceValue) (t : ℕ) → MakesGraphs request → IsAsked request before.shelf.held I → IsTooLarge I t → ComesOut TooLarge status
+  pub joint : (I : InstanceValue) → MakesJoint request → IsAsked request before.shelf.held I → IsJointLarge I → ComesOut TooLarge status
   pub rejected : (I : InstanceValue) (text : TextValue) → second_text request ≡ Some text → IsGood request before.shelf.held I → IsRejected request (before.shelf.held text.name) I → ComesOut text.refused status
   pub accepted : (I : InstanceValue) → IsGood request before.shelf.held I → HasFit request before.shelf.held I (second_text request) → ¬ Rose before.shelf.read_faults after.shelf.read_faults → ¬ WriteRose (certificate_of request) before.shelf after.shelf → ¬ Rose before.out.faults after.out.faults → IsReported status ⊎ (status ≡ NoMemory)
   pub settled : (I : InstanceValue) (g : List TypeValue) → IsAsked request before.shelf.held I → IsCompiled I g → GrantsEnough request I g → status ≢ Bracketed

@@ -32,7 +32,7 @@ abbrev pub GrantsEnough : Request → InstanceValue → List TypeValue → Type 
 GrantsEnough (Compiles name mvp workers) I g = Unit {0}
 GrantsEnough (Solves name mvp nodes certificate workers) I g = IsEnough nodes I g
 GrantsEnough (Checks name certificate mvp workers) I g = Unit {0}
-GrantsEnough (Exports name mvp) I g = Unit {0}
+GrantsEnough (Exports name mvp joint) I g = Unit {0}
 GrantsEnough (Extracts name solution mvp) I g = Unit {0}
 GrantsEnough (Bounds name mvp certificate) I g = Unit {0}
 GrantsEnough (Makes seed size nodes workers) I g = IsEnough nodes I g
@@ -43,7 +43,7 @@ abbrev pub Tells : Request → Line → List Bin → Certificate → List ℕ �
 Tells (Compiles name mvp workers) line bins c text = ⊥
 Tells (Solves name mvp nodes certificate workers) line bins c text = text ≡ line ++ bins_text bins ++ splits_line c.lines
 Tells (Checks name certificate mvp workers) line bins c text = ⊥
-Tells (Exports name mvp) line bins c text = ⊥
+Tells (Exports name mvp joint) line bins c text = ⊥
 Tells (Extracts name solution mvp) line bins c text = ⊥
 Tells (Bounds name mvp certificate) line bins c text = ⊥
 Tells (Makes seed size nodes workers) line bins c text = (before : List ℕ) × (text ≡ before ++ line)
@@ -88,7 +88,7 @@ abbrev pub Decides : Request → World → World → Option Certificate → Stat
 Decides (Compiles name mvp workers) before after made status = made ≡ None
 Decides (Solves name mvp nodes certificate workers) before after made status = IsDecided (Solves name mvp nodes certificate workers) before after made status
 Decides (Checks name certificate mvp workers) before after made status = made ≡ None
-Decides (Exports name mvp) before after made status = made ≡ None
+Decides (Exports name mvp joint) before after made status = made ≡ None
 Decides (Extracts name solution mvp) before after made status = made ≡ None
 Decides (Bounds name mvp certificate) before after made status = made ≡ None
 Decides (Makes seed size nodes workers) before after made status = IsDecided (Makes seed size nodes workers) before after made status

@@ -4,7 +4,7 @@ use Rattle.packing_laws.specs.declared.fault.ReadFault.{ReadFault}
 use Rattle.packing_laws.specs.declared.fault.ReadFault.TheVariants as read
 use Rattle.command_words.specs.Lines.{word_fault_line}
 use Rattle.arc_program.specs.declared.refusals.Refusal.{Refusal}
-use Rattle.arc_program.specs.declared.refusals.Refusal.TheVariants.{Words, Unread, Long, BadPlace, Large, Rejected, Unstored, Unwritten, Memory}
+use Rattle.arc_program.specs.declared.refusals.Refusal.TheVariants.{Words, Unread, Long, BadPlace, Large, LargeJoint, Rejected, Unstored, Unwritten, Memory}
 use Rattle.arc_program.specs.declared.status.Status.{Status}
 use Rattle.arc_program.specs.declared.status.Status.TheVariants.{Usage, BadInstance, ReadFault as ReadFaults, WriteFault, NoMemory, TooLarge}
 
@@ -52,6 +52,10 @@ long_line name = named_line name (codes "too long")
 abbrev pub large_line : List ℕ → ℕ → List ℕ
 large_line name t = codes "vpack: " ++ name ++ codes ": type " ++ decimal t ++ codes ": too many arcs\n"
 
+-- the line on a graph for all types that has too many arcs
+abbrev pub large_joint_line : List ℕ → List ℕ
+large_joint_line name = named_line name (codes "joint graph: too many arcs")
+
 -- the line on a refusal
 abbrev pub refusal_line : Refusal → List ℕ
 refusal_line (Words fault) = word_fault_line fault
@@ -59,6 +63,7 @@ refusal_line (Unread name) = unread_line (string_bytes name)
 refusal_line (Long name) = long_line (string_bytes name)
 refusal_line (BadPlace name fault) = place_line (string_bytes name) fault
 refusal_line (Large name t) = large_line (string_bytes name) t
+refusal_line (LargeJoint name) = large_joint_line (string_bytes name)
 refusal_line (Rejected line status) = line
 refusal_line (Unstored name) = unstored_line (string_bytes name)
 refusal_line Unwritten = output_line
@@ -71,6 +76,7 @@ refusal_status (Unread name) = ReadFaults
 refusal_status (Long name) = BadInstance
 refusal_status (BadPlace name fault) = BadInstance
 refusal_status (Large name t) = TooLarge
+refusal_status (LargeJoint name) = TooLarge
 refusal_status (Rejected line status) = status
 refusal_status (Unstored name) = WriteFault
 refusal_status Unwritten = WriteFault

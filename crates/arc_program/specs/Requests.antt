@@ -4,12 +4,13 @@ use Rattle.std.specs.Option.{IsSomeAnd}
 use Rattle.arc_num.specs.declared.TheConstants.{MAX_INSTANCE}
 use Rattle.arc_io.specs.Bytes.{Files}
 use Rattle.arc_compile.specs.Graphs.{IsSmall}
+use Rattle.joint_compile.specs.JointCompiled.{IsJointSmall}
 use Rattle.packing_laws.specs.declared.fault.ReadFault.{ReadFault}
 use Rattle.packing_laws.specs.Instances.{InstanceValue, IsInstance}
 use Rattle.packing_laws.specs.Layouts as layouts
 use Rattle.packing_laws.specs.Layouts.{Layout, Vbp, Mvp}
 use Rattle.workload.specs.Generated.{generated_value}
-use Rattle.command_words.specs.Requests.{Request, SourceValue, Named, Generated, source_of, is_mvp_of, MakesGraphs, certificate_of}
+use Rattle.command_words.specs.Requests.{Request, SourceValue, Named, Generated, source_of, is_mvp_of, MakesGraphs, MakesJoint, certificate_of}
 use Rattle.arc_program.specs.World.{ShelfSeen}
 use Rattle.arc_program.specs.Writing.{WritesUnder}
 
@@ -69,9 +70,9 @@ IsToldFrom (Generated seed size) request held I = I ≡ generated_value seed siz
 abbrev pub IsAsked : Request → Files → InstanceValue → Type 0
 IsAsked request held I = IsToldFrom (source_of request) request held I
 
--- and it is small where graphs are made of it
+-- and the graphs that are made of it are small
 abbrev pub IsGood : Request → Files → InstanceValue → Type 0
-IsGood request held I = IsAsked request held I × (MakesGraphs request → IsSmall I)
+IsGood request held I = IsAsked request held I × (MakesGraphs request → IsSmall I) × (MakesJoint request → IsJointSmall I)
 
 -- the bytes under the name are told, and are no instance
 abbrev pub IsRefusedFrom : SourceValue → Request → Files → Type 0

@@ -20,7 +20,7 @@ abbrev pub second_text : Request → Option TextValue
 second_text (Compiles name mvp workers) = None
 second_text (Solves name mvp nodes certificate workers) = None
 second_text (Checks name certificate mvp workers) = Some (record { name = certificate; most = MAX_CERT; refused = BadCertificate })
-second_text (Exports name mvp) = None
+second_text (Exports name mvp joint) = None
 second_text (Extracts name solution mvp) = Some (record { name = solution; most = MAX_INSTANCE; refused = BadSolution })
 second_text (Bounds name mvp certificate) = None
 second_text (Makes seed size nodes workers) = None
@@ -47,7 +47,7 @@ abbrev pub ReadsRefused : Request → List ℕ → ℕ → ShelfSeen → ShelfSe
 ReadsRefused (Compiles name mvp workers) text most before after = HasRead text most before after
 ReadsRefused (Solves name mvp nodes certificate workers) text most before after = HasRead text most before after
 ReadsRefused (Checks name certificate mvp workers) text most before after = HasTaken text most before after
-ReadsRefused (Exports name mvp) text most before after = HasRead text most before after
+ReadsRefused (Exports name mvp joint) text most before after = HasRead text most before after
 ReadsRefused (Extracts name solution mvp) text most before after = HasRead text most before after
 ReadsRefused (Bounds name mvp certificate) text most before after = HasRead text most before after
 ReadsRefused (Makes seed size nodes workers) text most before after = HasRead text most before after

@@ -2,6 +2,7 @@
 pub mod Compile
 pub mod Solve
 pub mod Export
+pub mod JointExport
 pub mod Extract
 pub mod Check
 pub mod Bound
@@ -19,9 +20,15 @@ use Rattle.arc_program.specs.Printing.{Line}
 use Rattle.arc_program.specs.commands.Compile.{IsGraphReport}
 use Rattle.arc_program.specs.commands.Solve.{IsSolved, IsMade}
 use Rattle.arc_program.specs.commands.Export.{IsExport}
+use Rattle.arc_program.specs.commands.JointExport.{IsJointExport}
 use Rattle.arc_program.specs.commands.Extract.{IsExtracted, GivesNoFlow, GivesFlow}
 use Rattle.arc_program.specs.commands.Check.{IsChecked, IsNotAccepted, IsAcceptable, IsUnjudged}
 use Rattle.arc_program.specs.commands.Bound.{IsBoundReport, IsBoundCertificate}
+
+-- the text is the model that is owed for the instance, over a graph for each type or over one for all
+abbrev pub IsModel : Bool → InstanceValue → Status → List ℕ → Type 0
+IsModel false I status text = IsExport I status text
+IsModel true I status text = IsJointExport I status text
 
 -- the text is the report that is owed for the instance and for the bytes of the second text, where these are told; this is the
 -- status of a run that prints it, and the certificate is that of an outcome that it tells
@@ -29,7 +36,7 @@ abbrev pub IsReport : Request → Told → InstanceValue → Status → List ℕ
 IsReport (Compiles name mvp workers) second I status text made = IsGraphReport I status text × (made ≡ None)
 IsReport (Solves name mvp nodes certificate workers) second I status text made = IsSolved I nodes status text made
 IsReport (Checks name certificate mvp workers) second I status text made = IsChecked I second status text × (made ≡ None)
-IsReport (Exports name mvp) second I status text made = IsExport I status text × (made ≡ None)
+IsReport (Exports name mvp joint) second I status text made = IsModel joint I status text × (made ≡ None)
 IsReport (Extracts name solution mvp) second I status text made = IsExtracted I second status text × (made ≡ None)
 IsReport (Bounds name mvp certificate) second I status text made = IsBoundReport I status text × (made ≡ None)
 IsReport (Makes seed size nodes workers) second I status text made = IsMade I seed size nodes status text made
@@ -39,7 +46,7 @@ abbrev pub IsRejection : Request → Told → InstanceValue → Line → Type 0
 IsRejection (Compiles name mvp workers) second I line = ⊥
 IsRejection (Solves name mvp nodes certificate workers) second I line = ⊥
 IsRejection (Checks name certificate mvp workers) second I line = IsNotAccepted I certificate second line
-IsRejection (Exports name mvp) second I line = ⊥
+IsRejection (Exports name mvp joint) second I line = ⊥
 IsRejection (Extracts name solution mvp) second I line = GivesNoFlow I solution second line
 IsRejection (Bounds name mvp certificate) second I line = ⊥
 IsRejection (Makes seed size nodes workers) second I line = ⊥
@@ -49,7 +56,7 @@ abbrev pub IsFit : Request → InstanceValue → List ℕ → Type 0
 IsFit (Compiles name mvp workers) I bytes = Unit {0}
 IsFit (Solves name mvp nodes certificate workers) I bytes = Unit {0}
 IsFit (Checks name certificate mvp workers) I bytes = IsAcceptable I bytes
-IsFit (Exports name mvp) I bytes = Unit {0}
+IsFit (Exports name mvp joint) I bytes = Unit {0}
 IsFit (Extracts name solution mvp) I bytes = GivesFlow I bytes
 IsFit (Bounds name mvp certificate) I bytes = Unit {0}
 IsFit (Makes seed size nodes workers) I bytes = Unit {0}
@@ -59,7 +66,7 @@ abbrev pub IsUndecided : Request → InstanceValue → List ℕ → Type 0
 IsUndecided (Compiles name mvp workers) I bytes = Unit {0}
 IsUndecided (Solves name mvp nodes certificate workers) I bytes = Unit {0}
 IsUndecided (Checks name certificate mvp workers) I bytes = IsUnjudged I bytes
-IsUndecided (Exports name mvp) I bytes = Unit {0}
+IsUndecided (Exports name mvp joint) I bytes = Unit {0}
 IsUndecided (Extracts name solution mvp) I bytes = Unit {0}
 IsUndecided (Bounds name mvp certificate) I bytes = Unit {0}
 IsUndecided (Makes seed size nodes workers) I bytes = Unit {0}
@@ -82,7 +89,7 @@ abbrev pub IsCertificate : Request → InstanceValue → List ℕ → Option Cer
 IsCertificate (Compiles name mvp workers) I text made bytes = ⊥
 IsCertificate (Solves name mvp nodes certificate workers) I text made bytes = IsTextOf made bytes
 IsCertificate (Checks name certificate mvp workers) I text made bytes = ⊥
-IsCertificate (Exports name mvp) I text made bytes = ⊥
+IsCertificate (Exports name mvp joint) I text made bytes = ⊥
 IsCertificate (Extracts name solution mvp) I text made bytes = ⊥
 IsCertificate (Bounds name mvp certificate) I text made bytes = IsBoundCertificate I text bytes
 IsCertificate (Makes seed size nodes workers) I text made bytes = ⊥

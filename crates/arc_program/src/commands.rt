@@ -10,6 +10,7 @@ mod check;
 mod compile;
 mod export;
 mod extract;
+mod joint_export;
 mod make;
 mod solve;
 
@@ -41,6 +42,9 @@ pub enum WorkFault {
     /// The main graphs of the types up to this one have more than 1,000,000 arcs together.
     #[error("type {t}: too many arcs")]
     Large { t: u32 },
+    /// The joint main graph of all types has more than 1,000,000 arcs.
+    #[error("joint graph: too many arcs")]
+    LargeJoint,
     /// The second text, under this name, could not be read.
     #[error("cannot read {name}")]
     Unread { name: String },
@@ -96,7 +100,7 @@ pub fn work_on<R: Threads + Sync, H: Shelf>(
             workers,
             ..
         } => Ok(solve::report(rt, alloc, instance, *nodes, cert.is_some(), *workers)?),
-        Command::Export { .. } => Ok(export::report(rt, alloc, instance)?),
+        Command::Export { joint, .. } => export::report(rt, alloc, instance, *joint),
         Command::Extract { solution, .. } => {
             extract::report(rt, alloc, instance, solution.as_str(), shelf)
         }

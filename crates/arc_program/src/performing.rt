@@ -72,6 +72,7 @@ fn work_refusal(alloc: Global, command: Command, fault: WorkFault) -> Refusal
     };
     match fault {
         WorkFault::Large { t } => Refusal::Large { name, t },
+        WorkFault::LargeJoint => Refusal::LargeJoint { name },
         WorkFault::Unread { name } => Refusal::Unread { name },
         WorkFault::Rejected { line, status } => Refusal::Rejected { line, status },
         WorkFault::Memory => Refusal::Memory,

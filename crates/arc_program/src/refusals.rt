@@ -2,7 +2,7 @@
 
 ghost use Rattle.std.specs.Prelude.{◌≡◌, ◌++◌, IfOk, string_bytes, codes};
 ghost use Rattle.command_words.specs.Lines.{word_fault_line};
-ghost use Rattle.arc_program.specs.Refusals.{token_line, place_line, refusal_line, refusal_status, unstored_line, named_line, no_weight, large_line};
+ghost use Rattle.arc_program.specs.Refusals.{token_line, place_line, refusal_line, refusal_status, unstored_line, named_line, no_weight, large_line, large_joint_line};
 
 use crate::loading::Text;
 use crate::status::Status;
@@ -24,6 +24,8 @@ pub enum Refusal {
     BadPlace { name: String, fault: ReadFault },
     /// The main graphs of the types up to this one have more than 1,000,000 arcs together.
     Large { name: String, t: u32 },
+    /// The joint main graph of all types has more than 1,000,000 arcs.
+    LargeJoint { name: String },
     /// The second text is refused: the line that says why, and the status.
     Rejected { line: Text, status: Status },
     /// The certificate could not be written under this name.
@@ -108,6 +110,12 @@ fn large_text(alloc: Global, name: &str, t: u32) -> Result<String, AllocError>
     format!(in alloc; "vpack: {name}: type {t}: too many arcs\n")
 }
 
+fn large_joint_text(alloc: Global, name: &str) -> Result<String, AllocError>
+    ensures { IfOk result (λ line. string_bytes line ≡ large_joint_line name.now) }
+{
+    format!(in alloc; "vpack: {name}: joint graph: too many arcs\n")
+}
+
 fn copied(alloc: Global, line: &[u8]) -> Result<Vec<u8>, Memory>
     ensures { IfOk result (λ copy. copy.items ≡ line.now) }
 {
@@ -125,6 +133,7 @@ pub fn refusal_text(alloc: Global, refusal: &Refusal) -> Result<Vec<u8>, Memory>
         Refusal::Long { name } => long_text(alloc, name.as_str())?,
         Refusal::BadPlace { name, fault } => place_text(alloc, name.as_str(), *fault)?,
         Refusal::Large { name, t } => large_text(alloc, name.as_str(), *t)?,
+        Refusal::LargeJoint { name } => large_joint_text(alloc, name.as_str())?,
         Refusal::Rejected { line, .. } => return copied(alloc, line.as_slice()),
         Refusal::Unstored { name } => unstored_text(alloc, name.as_str())?,
         Refusal::Unwritten => String::from_str(alloc, "vpack: cannot write output\n")?,
@@ -144,6 +153,7 @@ impl Refusal {
             Refusal::Long { .. } => Status::BadInstance,
             Refusal::BadPlace { .. } => Status::BadInstance,
             Refusal::Large { .. } => Status::TooLarge,
+            Refusal::LargeJoint { .. } => Status::TooLarge,
             Refusal::Rejected { status, .. } => *status,
             Refusal::Unstored { .. } => Status::WriteFault,
             Refusal::Unwritten => Status::WriteFault,

@@ -16,6 +16,7 @@ use arc_compile::{compiled_graphs_are_one, sizes_are_one};
 use arc_io::{Shelf, Sink};
 use cert_stream::verdicts_are_exact;
 use cert_text::Certificate;
+use joint_compile::joint_sizes_are_one;
 use std::alloc::Global;
 use std::thread::Threads;
 
@@ -120,6 +121,7 @@ pub fn run<R: Threads + Sync, H: Shelf, K: Sink, E: Sink>(
     ensures unmade { LeavesNone made.new result }
 {
     sizes_are_one();
+    joint_sizes_are_one();
     compiled_graphs_are_one();
     fit_is_not_rejected();
     let finished = ended(rt, alloc, words, shelf, out, err);

@@ -1,11 +1,11 @@
 -- What the words of a command line ask for.
-use Rattle.std.specs.Prelude.{◌≡◌, ℕ, ◌<◌, ◌≤◌, ◌^◌, Bool, false, ◌||◌, nat_eq, List, [], ◌∷◌, Option, Some, None, option_map, Result, Ok, Err, IsTrue, codes, string_bytes, unwrap_or, option_and_then}
+use Rattle.std.specs.Prelude.{◌≡◌, ℕ, ◌<◌, ◌≤◌, ◌^◌, Bool, false, not, ◌&&◌, ◌||◌, nat_eq, List, [], ◌∷◌, Option, Some, None, option_map, Result, Ok, Err, IsTrue, codes, string_bytes, unwrap_or, option_and_then}
 use Rattle.std.specs.List.{ends_with}
 use Rattle.arc_num.specs.Decimals.{number_of}
 use Rattle.arc_num.specs.declared.TheConstants.{MAX_ITEMS, MAX_SPLITS, MAX_WORKERS}
 use Rattle.command_words.specs.declared.table.Verb.{Verb}
 use Rattle.command_words.specs.declared.table.Verb.TheVariants as verb
-use Rattle.command_words.specs.declared.table.Setting.TheVariants.{Mvp, Nodes, Cert, Workers}
+use Rattle.command_words.specs.declared.table.Setting.TheVariants.{Mvp, Joint, Nodes, Cert, Workers}
 use Rattle.command_words.specs.declared.commands.Command.{Command}
 use Rattle.command_words.specs.declared.commands.Command.TheVariants.{Compile, Solve, Check, Export, Extract, Bound, Make}
 use Rattle.command_words.specs.declared.commands.Source.{Source}
@@ -20,12 +20,12 @@ use Rattle.command_words.specs.Faults.{is_given, plain_of, value_of_setting, num
 
 -- what is asked for: a command, with the name of an instance and whether it is read as `.mvp`, or with the seed and the size
 -- of one that is generated; and for some how many threads may work at once, how many splits are granted, the name of a second
--- text that is read, or the name under which a certificate is written
+-- text that is read, the name under which a certificate is written, or whether one graph is made for all types
 pub data Request : Type 0 where
   Compiles : (name : List ℕ) (mvp : Bool) (workers : ℕ) → Request
   Solves : (name : List ℕ) (mvp : Bool) (nodes : ℕ) (certificate : Option (List ℕ)) (workers : ℕ) → Request
   Checks : (name certificate : List ℕ) (mvp : Bool) (workers : ℕ) → Request
-  Exports : (name : List ℕ) (mvp : Bool) → Request
+  Exports : (name : List ℕ) (mvp joint : Bool) → Request
   Extracts : (name solution : List ℕ) (mvp : Bool) → Request
   Bounds : (name : List ℕ) (mvp : Bool) (certificate : Option (List ℕ)) → Request
   Makes : (seed size nodes workers : ℕ) → Request
@@ -35,7 +35,7 @@ abbrev pub request_of : Command → Request
 request_of (Compile name mvp workers) = Compiles (string_bytes name) mvp workers
 request_of (Solve name mvp nodes certificate workers) = Solves (string_bytes name) mvp nodes (option_map string_bytes certificate) workers
 request_of (Check name certificate mvp workers) = Checks (string_bytes name) (string_bytes certificate) mvp workers
-request_of (Export name mvp) = Exports (string_bytes name) mvp
+request_of (Export name mvp joint) = Exports (string_bytes name) mvp joint
 request_of (Extract name solution mvp) = Extracts (string_bytes name) (string_bytes solution) mvp
 request_of (Bound name mvp certificate) = Bounds (string_bytes name) mvp (option_map string_bytes certificate)
 request_of (Make seed size nodes workers) = Makes seed size nodes workers
@@ -56,7 +56,7 @@ abbrev pub source_of : Request → SourceValue
 source_of (Compiles name mvp workers) = Named name mvp
 source_of (Solves name mvp nodes certificate workers) = Named name mvp
 source_of (Checks name certificate mvp workers) = Named name mvp
-source_of (Exports name mvp) = Named name mvp
+source_of (Exports name mvp joint) = Named name mvp
 source_of (Extracts name solution mvp) = Named name mvp
 source_of (Bounds name mvp certificate) = Named name mvp
 source_of (Makes seed size nodes workers) = Generated seed size
@@ -83,21 +83,35 @@ abbrev pub verb_of : Request → Verb
 verb_of (Compiles name mvp workers) = verb.Compile
 verb_of (Solves name mvp nodes certificate workers) = verb.Solve
 verb_of (Checks name certificate mvp workers) = verb.Check
-verb_of (Exports name mvp) = verb.Export
+verb_of (Exports name mvp joint) = verb.Export
 verb_of (Extracts name solution mvp) = verb.Extract
 verb_of (Bounds name mvp certificate) = verb.Bound
 verb_of (Makes seed size nodes workers) = verb.Make
 
--- the graphs of the instance are made for the request
+-- whether the request asks for one graph for all types
+abbrev pub is_joint : Request → Bool
+is_joint (Compiles name mvp workers) = false
+is_joint (Solves name mvp nodes certificate workers) = false
+is_joint (Checks name certificate mvp workers) = false
+is_joint (Exports name mvp joint) = joint
+is_joint (Extracts name solution mvp) = false
+is_joint (Bounds name mvp certificate) = false
+is_joint (Makes seed size nodes workers) = false
+
+-- that graph is made for the request
+abbrev pub MakesJoint : Request → Type 0
+MakesJoint request = IsTrue (is_joint request)
+
+-- a graph for each type is made for the request
 abbrev pub MakesGraphs : Request → Type 0
-MakesGraphs request = IsTrue (row_of (verb_of request)).makes_graphs
+MakesGraphs request = IsTrue ((row_of (verb_of request)).makes_graphs && not (is_joint request))
 
 -- the name under which the request asks for a certificate to be written
 abbrev pub certificate_of : Request → Option Word
 certificate_of (Compiles name mvp workers) = None
 certificate_of (Solves name mvp nodes certificate workers) = certificate
 certificate_of (Checks name certificate mvp workers) = None
-certificate_of (Exports name mvp) = None
+certificate_of (Exports name mvp joint) = None
 certificate_of (Extracts name solution mvp) = None
 certificate_of (Bounds name mvp certificate) = certificate
 certificate_of (Makes seed size nodes workers) = None
@@ -107,7 +121,7 @@ abbrev pub workers_of : Request → ℕ
 workers_of (Compiles name mvp workers) = workers
 workers_of (Solves name mvp nodes certificate workers) = workers
 workers_of (Checks name certificate mvp workers) = workers
-workers_of (Exports name mvp) = 1
+workers_of (Exports name mvp joint) = 1
 workers_of (Extracts name solution mvp) = 1
 workers_of (Bounds name mvp certificate) = 1
 workers_of (Makes seed size nodes workers) = workers
@@ -117,7 +131,7 @@ abbrev pub nodes_of : Request → ℕ
 nodes_of (Compiles name mvp workers) = 0
 nodes_of (Solves name mvp nodes certificate workers) = nodes
 nodes_of (Checks name certificate mvp workers) = 0
-nodes_of (Exports name mvp) = 0
+nodes_of (Exports name mvp joint) = 0
 nodes_of (Extracts name solution mvp) = 0
 nodes_of (Bounds name mvp certificate) = 0
 nodes_of (Makes seed size nodes workers) = nodes
@@ -169,7 +183,7 @@ abbrev pub request_from : Verb → List PartValue → Request
 request_from verb.Compile parts = Compiles (first_name parts) (wants_mvp parts) (wanted_workers parts)
 request_from verb.Solve parts = Solves (first_name parts) (wants_mvp parts) (wanted_nodes parts) (value_of_setting Cert parts) (wanted_workers parts)
 request_from verb.Check parts = Checks (first_name parts) (name_at 1 parts) (wants_mvp parts) (wanted_workers parts)
-request_from verb.Export parts = Exports (first_name parts) (wants_mvp parts)
+request_from verb.Export parts = Exports (first_name parts) (wants_mvp parts) (is_given Joint parts)
 request_from verb.Extract parts = Extracts (first_name parts) (name_at 1 parts) (wants_mvp parts)
 request_from verb.Bound parts = Bounds (first_name parts) (wants_mvp parts) (value_of_setting Cert parts)
 request_from verb.Make parts = Makes (number_at 0 parts) (number_at 1 parts) (wanted_nodes parts) (wanted_workers parts)

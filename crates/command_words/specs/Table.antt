@@ -26,9 +26,9 @@ verb_named w =
     else (if bytes_eq w (codes "bound") then Some Bound
     else (if bytes_eq w (codes "make") then Some Make else None))))))
 
--- NAME [--mvp]
-abbrev pub instance_shape : Shape
-instance_shape = record { first = Instance; second = None; mvp = true; joint = false; nodes = false; cert = false; workers = false }
+-- NAME [--mvp] [--joint]
+abbrev pub exported_instance_shape : Shape
+exported_instance_shape = record { first = Instance; second = None; mvp = true; joint = true; nodes = false; cert = false; workers = false }
 
 -- NAME [--mvp] [--workers K]
 abbrev pub shared_instance_shape : Shape
@@ -59,7 +59,7 @@ abbrev pub row_of : Verb → Row
 row_of Compile = record { shape = shared_instance_shape; makes_graphs = true }
 row_of Solve = record { shape = searched_instance_shape; makes_graphs = true }
 row_of Check = record { shape = certified_instance_shape; makes_graphs = true }
-row_of Export = record { shape = instance_shape; makes_graphs = true }
+row_of Export = record { shape = exported_instance_shape; makes_graphs = true }
 row_of Extract = record { shape = solved_instance_shape; makes_graphs = true }
 row_of Bound = record { shape = certifiable_instance_shape; makes_graphs = false }
 row_of Make = record { shape = generated_instance_shape; makes_graphs = true }

@@ -1,7 +1,7 @@
 //! What the command line asks for.
 
 ghost use Rattle.std.specs.Prelude.{◌≡◌, ◌↔◌, option_map, string_bytes, IfOk, IsTrue};
-ghost use Rattle.command_words.specs.Requests.{Named, request_of, certificate_of, source_value, source_of, name_of, verb_of, workers_of, MakesGraphs};
+ghost use Rattle.command_words.specs.Requests.{Named, request_of, certificate_of, source_value, source_of, name_of, verb_of, workers_of, is_joint, MakesGraphs};
 
 use crate::table::Verb;
 use arc_num::Memory;
@@ -12,7 +12,7 @@ pub const DEFAULT_SPLITS: u32 = 1_000;
 
 /// What the command line asks for. `mvp` says that the instance is read in the `.mvp` layout, `workers` how many threads
 /// may work at once, `nodes` how many splits are granted to a search, `cert` under which name a certificate is read or
-/// written.
+/// written, `joint` that one graph is made for all types in place of one for each.
 #[derive(Debug, Drop)]
 pub enum Command {
     Compile {
@@ -36,6 +36,7 @@ pub enum Command {
     Export {
         name: String,
         mvp: bool,
+        joint: bool,
     },
     Extract {
         name: String,
@@ -92,7 +93,7 @@ impl Command {
             Command::Compile { name, mvp, .. } => named(name, *mvp),
             Command::Solve { name, mvp, .. } => named(name, *mvp),
             Command::Check { name, mvp, .. } => named(name, *mvp),
-            Command::Export { name, mvp } => named(name, *mvp),
+            Command::Export { name, mvp, .. } => named(name, *mvp),
             Command::Extract { name, mvp, .. } => named(name, *mvp),
             Command::Bound { name, mvp, .. } => named(name, *mvp),
             Command::Make { seed, size, .. } => Source::Generated {
@@ -131,11 +132,26 @@ impl Command {
         }
     }
 
-    /// Whether the graphs of the instance are made for the command.
+    /// Whether one graph for all types is made for the command.
+    pub fn is_joint(&self) -> bool
+        ensures { result ≡ is_joint (request_of self.now) }
+    {
+        match self {
+            Command::Compile { .. } => false,
+            Command::Solve { .. } => false,
+            Command::Check { .. } => false,
+            Command::Export { joint, .. } => *joint,
+            Command::Extract { .. } => false,
+            Command::Bound { .. } => false,
+            Command::Make { .. } => false,
+        }
+    }
+
+    /// Whether a graph for each type is made for the command.
     pub fn makes_graphs(&self) -> bool
         ensures { IsTrue result ↔ MakesGraphs (request_of self.now) }
     {
-        self.verb().row().makes_graphs
+        self.verb().row().makes_graphs && !self.is_joint()
     }
 
     /// The name of the instance, given away: that of one that is generated is the word `make`.

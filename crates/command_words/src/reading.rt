@@ -146,7 +146,8 @@ fn export_from(alloc: Global, found: &Found) -> Result<Command, Memory>
 {
     let name = name_at(alloc, found, 0)?;
     let mvp = wants_mvp(found, name.as_str());
-    Ok(Command::Export { name, mvp })
+    let joint = found.has(Setting::Joint);
+    Ok(Command::Export { name, mvp, joint })
 }
 
 fn extract_from(alloc: Global, found: &Found) -> Result<Command, Memory>

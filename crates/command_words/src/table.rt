@@ -86,6 +86,12 @@ const INSTANCE: Shape = Shape {
     workers: false,
 };
 
+/// An instance whose model may be over one graph for all types.
+const EXPORTED_INSTANCE: Shape = Shape {
+    joint: true,
+    ..INSTANCE
+};
+
 /// An instance that several threads may work on.
 const SHARED_INSTANCE: Shape = Shape {
     workers: true,
@@ -169,7 +175,7 @@ impl Verb {
                 makes_graphs: true,
             },
             Verb::Export => Row {
-                shape: INSTANCE,
+                shape: EXPORTED_INSTANCE,
                 makes_graphs: true,
             },
             Verb::Extract => Row {

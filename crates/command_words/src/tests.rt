@@ -80,6 +80,7 @@ fn commands_are_read(rt: HostRuntime) -> Result<(), Fail> {
     assert!(rt; is_named(compile.source(), "a.mvp", true) && compile.workers() == 1);
     let export = command(rt.alloc(), "export -")?;
     assert!(rt; matches!(&export, Command::Export { .. }) && export.makes_graphs());
+    assert!(rt; !export.is_joint());
     assert!(rt; is_named(export.source(), "-", false));
     assert_eq!(rt; export.into_name(rt.alloc())?.as_str(), "-");
     match command(rt.alloc(), "extract a.mvp -")? {
@@ -93,6 +94,26 @@ fn commands_are_read(rt: HostRuntime) -> Result<(), Fail> {
         ),
         _ => panic!(rt; "another command is read"),
     }
+    Ok(())
+}
+
+#[test]
+fn joint_models_are_asked_for(rt: HostRuntime) -> Result<(), Fail> {
+    for (words, asked) in [
+        ("export a", ("a", false, false)),
+        ("export a --joint", ("a", false, true)),
+        ("export --joint --mvp -", ("-", true, true)),
+        ("export --mvp -- --joint", ("--joint", true, false)),
+    ] {
+        match command(rt.alloc(), words)? {
+            Command::Export { name, mvp, joint } => {
+                assert_eq!(rt; (name.as_str(), mvp, joint), asked, "{words}");
+            }
+            _ => panic!(rt; "another command is read"),
+        }
+    }
+    let export = command(rt.alloc(), "export --joint a")?;
+    assert!(rt; export.is_joint() && !export.makes_graphs());
     Ok(())
 }
 
@@ -193,6 +214,10 @@ fn first_faulty_words_are_named(rt: HostRuntime) {
         ("solve a --workers=0", WordFault::BadValue { word: 3 }),
         ("compile a --workers", WordFault::NoValue { word: 3 }),
         ("export a --workers 2", WordFault::NoSuchOption { word: 3 }),
+        ("export a --joint=1", WordFault::BadValue { word: 3 }),
+        ("export --joint a --joint", WordFault::Repeated { word: 4 }),
+        ("compile a --joint", WordFault::NoSuchOption { word: 3 }),
+        ("extract a b --joint", WordFault::NoSuchOption { word: 4 }),
         ("extract - -", WordFault::BadName { word: 3 }),
         ("extract a ", WordFault::BadName { word: 3 }),
         ("extract a", WordFault::TooFewWords),

@@ -120,5 +120,6 @@ abbrev pub Stops : List ℕ → IoFault → WorkFault → Type 0
 Stops name Failed (work.Unread unread) = string_bytes unread ≡ name
 Stops name Memory (work.Unread unread) = ⊥
 Stops name fault (work.Large t) = ⊥
+Stops name fault work.LargeJoint = ⊥
 Stops name fault (work.Rejected line status) = ⊥
 Stops name fault work.Memory = Unit {0}

@@ -23,6 +23,7 @@ pub record IsKeptText (I : InstanceValue) (found : List Bin) (text : List ℕ) :
 abbrev pub Judges : InstanceValue → List ℕ → List ℕ → Result Report WorkFault → Type 0
 Judges I name bytes (Ok report) = IsReported report.status × IsExtracted I (Some bytes) report.status report.text × (report.made ≡ None) × (report.certificate ≡ None)
 Judges I name bytes (Err (work.Large t)) = ⊥
+Judges I name bytes (Err work.LargeJoint) = ⊥
 Judges I name bytes (Err (work.Unread unread)) = ⊥
 Judges I name bytes (Err (work.Rejected line status)) = (status ≡ BadSolution) × GivesNoFlow I name (Some bytes) line
 Judges I name bytes (Err work.Memory) = Unit {0}

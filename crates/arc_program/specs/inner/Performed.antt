@@ -5,10 +5,11 @@ use Rattle.arc_io.specs.declared.IoFault.TheVariants as io
 use Rattle.packing_laws.specs.Instances.{InstanceValue}
 use Rattle.cert_text.specs.declared.lines.Certificate.{Certificate}
 use Rattle.arc_compile.specs.Graphs.{IsTooLarge}
+use Rattle.joint_compile.specs.JointCompiled.{IsJointLarge}
 use Rattle.arc_program.specs.declared.performing.Finished.{Finished}
 use Rattle.command_words.specs.declared.faults.WordFault.{WordFault}
 use Rattle.arc_program.specs.declared.refusals.Refusal.{Refusal}
-use Rattle.arc_program.specs.declared.refusals.Refusal.TheVariants.{Words, Unread, Long, BadPlace, Large, Rejected, Unstored, Unwritten, Memory}
+use Rattle.arc_program.specs.declared.refusals.Refusal.TheVariants.{Words, Unread, Long, BadPlace, Large, LargeJoint, Rejected, Unstored, Unwritten, Memory}
 use Rattle.arc_program.specs.declared.status.Status.{Status}
 use Rattle.arc_program.specs.declared.status.Status.TheVariants.{NoMemory}
 use Rattle.command_words.specs.Requests.{Request}
@@ -19,7 +20,7 @@ use Rattle.arc_program.specs.Writing.{HasFailedToWrite}
 use Rattle.arc_program.specs.Stored.{ThenWrites, HasDoneAll}
 use Rattle.arc_program.specs.Printing.{Line, PutsOnce, PutsText, CutsOff}
 use Rattle.arc_program.specs.Refusals.{refusal_line, refusal_status, memory_line}
-use Rattle.command_words.specs.Requests.{name_of, MakesGraphs}
+use Rattle.command_words.specs.Requests.{name_of, MakesGraphs, MakesJoint}
 use Rattle.arc_program.specs.Requests.{ReadsInstance, IsGiven, IsLong, IsBadAt}
 use Rattle.arc_program.specs.Statuses.{IsReported}
 use Rattle.arc_program.specs.Ends.{IsOwed, IsOwedRejection, FailsAt, MayHaveDoneAll}
@@ -59,6 +60,13 @@ pub record IsLargeRead (request : Request) (before : ShelfSeen) (t : ℕ) : Type
   pub given : IsGiven request before.held instance
   pub large : IsTooLarge instance t
 
+-- the graph for all types of the instance that was read is too large
+pub record IsLargeJointRead (request : Request) (before : ShelfSeen) : Type 0 where
+  pub makes : MakesJoint request
+  pub instance : InstanceValue
+  pub given : IsGiven request before.held instance
+  pub large : IsJointLarge instance
+
 -- the second text is refused
 pub record IsRejectedRead (request : Request) (before after : ShelfSeen) (line : Line) (status : Status) : Type 0 where
   pub text : TextValue
@@ -74,6 +82,7 @@ CarriesOut request before after old new (Err (Unread name)) = FailsAt request (s
 CarriesOut request before after old new (Err (Long name)) = (string_bytes name ≡ name_of request) × ReadsInstance request × IfSome (before.held (name_of request)) IsLong × HasReadInstance request before after × (new ≡ old)
 CarriesOut request before after old new (Err (BadPlace name fault)) = (string_bytes name ≡ name_of request) × ReadsInstance request × IfSome (before.held (name_of request)) (λ bytes. IsBadAt request bytes fault) × HasReadInstance request before after × (new ≡ old)
 CarriesOut request before after old new (Err (Large name t)) = (string_bytes name ≡ name_of request) × IsLargeRead request before t × HasReadInstance request before after × (new ≡ old)
+CarriesOut request before after old new (Err (LargeJoint name)) = (string_bytes name ≡ name_of request) × IsLargeJointRead request before × HasReadInstance request before after × (new ≡ old)
 CarriesOut request before after old new (Err (Rejected line status)) = IsRejectedRead request before after line status × (new ≡ old)
 CarriesOut request before after old new (Err (Unstored name)) = IsUnstored request before after (string_bytes name) × (new ≡ old)
 CarriesOut request before after old new (Err Unwritten) = IsCut io.Failed request before after old new
@@ -87,6 +96,7 @@ HasNothingDone fault (Err (Unread name)) = ⊥
 HasNothingDone fault (Err (Long name)) = ⊥
 HasNothingDone fault (Err (BadPlace name place)) = ⊥
 HasNothingDone fault (Err (Large name t)) = ⊥
+HasNothingDone fault (Err (LargeJoint name)) = ⊥
 HasNothingDone fault (Err (Rejected line status)) = ⊥
 HasNothingDone fault (Err (Unstored name)) = ⊥
 HasNothingDone fault (Err Unwritten) = ⊥

@@ -4,7 +4,8 @@ use Rattle.packing_laws.specs.Instances.{InstanceValue}
 use Rattle.arc_compile.specs.declared.results.CompileFault.{CompileFault}
 use Rattle.arc_compile.specs.declared.results.CompileFault.TheVariants as compile
 use Rattle.arc_compile.specs.Graphs.{IsSmall, IsTooLarge}
-use Rattle.command_words.specs.Requests.{Request, certificate_of, MakesGraphs}
+use Rattle.joint_compile.specs.JointCompiled.{IsJointLarge}
+use Rattle.command_words.specs.Requests.{Request, certificate_of, MakesGraphs, MakesJoint}
 use Rattle.arc_program.specs.declared.commands.Report.{Report}
 use Rattle.arc_program.specs.declared.commands.WorkFault.{WorkFault}
 use Rattle.arc_program.specs.declared.commands.WorkFault.TheVariants as work
@@ -43,6 +44,7 @@ MayHaveReadSecond request before after = (after ≡ before) ⊎ ((text : TextVal
 abbrev pub Works : Request → InstanceValue → ShelfSeen → ShelfSeen → Result Report WorkFault → Type 0
 Works request I before after (Ok report) = IsReported report.status × IsReport request (second_held request before.held) I report.status report.text report.made × HasReadSecond (second_text request) before after × IsBeside (certificate_of request) request I report.text report.made report.certificate
 Works request I before after (Err (work.Large t)) = MakesGraphs request × IsTooLarge I t × (after ≡ before)
+Works request I before after (Err work.LargeJoint) = MakesJoint request × IsJointLarge I × (after ≡ before)
 Works request I before after (Err (work.Unread name)) = (text : TextValue) × (second_text request ≡ Some text) × (string_bytes name ≡ text.name) × HasFailed text.name text.most before after × StopsUndecided request I (before.held text.name) before after
 Works request I before after (Err (work.Rejected line status)) = Refuses request I before after line status
 Works request I before after (Err work.Memory) = MayHaveReadSecond request before after

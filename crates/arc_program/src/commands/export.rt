@@ -1,13 +1,16 @@
-//! The command `export`: the model of an instance, as MPS text.
+//! The command `export`: the model of an instance, as MPS text. `joint_export` does it over one graph for all types.
 
-ghost use Rattle.std.specs.Prelude.{◌≡◌, ℕ, None, IfOk, IfErr};
-ghost use Rattle.arc_compile.specs.Graphs.{IsSmall, IsTooLarge};
+ghost use Rattle.std.specs.Prelude.{◌≡◌, ℕ, Bool, false, List, None, IfOk};
+ghost use Rattle.arc_compile.specs.Graphs.{IsSmall};
 ghost use Rattle.arc_compile.specs.Compiled.{AreCompiled};
 ghost use Rattle.flow_graph.specs.Faithful.{IsFaithful};
+ghost use Rattle.command_words.specs.Requests.{Exports};
+ghost use Rattle.arc_program.specs.World.{ShelfSeen};
 ghost use Rattle.arc_program.specs.Statuses.{IsReported};
 ghost use Rattle.arc_program.specs.commands.Export.{IsExport};
+ghost use Rattle.arc_program.specs.inner.Work.{Works};
 
-use crate::commands::Report;
+use crate::commands::{Report, WorkFault, joint_export};
 use crate::loading::Text;
 use crate::status::Status;
 use arc_compile::{CompileFault, Compiled, compile};
@@ -46,21 +49,37 @@ fn model_report(alloc: Global, instance: &Instance, compiled: &Compiled) -> Resu
     })
 }
 
-/// The report of `export`.
+/// The report of `export` over a graph for each type.
+fn types_report<R: Threads + Sync>(
+    rt: &R,
+    alloc: Global,
+    instance: &Instance,
+) -> Result<Report, WorkFault>
+    ensures { (name : List ℕ) (mvp : Bool) (shelf : ShelfSeen) → Works (Exports name mvp false) instance.now shelf shelf result }
+{
+    let compiled = match compile(rt, alloc, instance, 1) {
+        Ok(compiled) => compiled,
+        Err(CompileFault::TooManyArcs { t }) => return Err(WorkFault::Large { t }),
+        Err(CompileFault::Memory) => return Err(WorkFault::Memory),
+    };
+    match model_report(alloc, instance, &compiled) {
+        Ok(report) => Ok(report),
+        Err(Memory) => Err(WorkFault::Memory),
+    }
+}
+
+/// The report of `export`: over one graph for all types where that is asked for, else over a graph for each.
 pub fn report<R: Threads + Sync>(
     rt: &R,
     alloc: Global,
     instance: &Instance,
-) -> Result<Report, CompileFault>
-    ensures reported { IfOk result (λ report. IsReported report.status) }
-    ensures text { IfOk result (λ report. IsExport instance.now report.status report.text) }
-    ensures unmade { IfOk result (λ report. report.made ≡ None) }
-    ensures alone { IfOk result (λ report. report.certificate ≡ None) }
-    ensures large { IfErr result (λ fault. (t : ℕ) → fault ≡ CompileFault.TooManyArcs t → IsTooLarge instance.now t) }
+    joint: bool,
+) -> Result<Report, WorkFault>
+    ensures { (name : List ℕ) (mvp : Bool) (shelf : ShelfSeen) → Works (Exports name mvp joint) instance.now shelf shelf result }
 {
-    let compiled = compile(rt, alloc, instance, 1)?;
-    match model_report(alloc, instance, &compiled) {
-        Ok(report) => Ok(report),
-        Err(Memory) => Err(CompileFault::Memory),
+    if joint {
+        joint_export::report(alloc, instance)
+    } else {
+        types_report(rt, alloc, instance)
     }
 }

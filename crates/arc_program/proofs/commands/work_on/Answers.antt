@@ -10,9 +10,10 @@ pub returns-in_err-report-in-Compile-clause-works : goal.returns-in_err-report-i
 returns-in_err-report-in-Compile-clause-works g c =
     works_not (request_of c.args.command.now) c.args.instance.now _ c.in_err-report-in-Compile.field-0.0 c.from_residual.result (subst (λ (command : Command). MakesGraphs (request_of command)) (sym c.in-Compile.is) refl) c.from_residual.ensures.1 c.in_err-report-in-Compile.ensures.large
 
-pub returns-in_err-report-in-Export-clause-works : goal.returns-in_err-report-in-Export-clause-works
-returns-in_err-report-in-Export-clause-works g c =
-    works_not (request_of c.args.command.now) c.args.instance.now _ c.in_err-report-in-Export.field-0.0 c.from_residual-in_err-report-in-Export.result (subst (λ (command : Command). MakesGraphs (request_of command)) (sym c.in-Export.is) refl) c.from_residual-in_err-report-in-Export.ensures.1 c.in_err-report-in-Export.ensures.large
+pub returns-in-Export-clause-works : goal.returns-in-Export-clause-works
+returns-in-Export-clause-works g c =
+    let shelf : ShelfSeen = shelf_seen g.H.Shelf c.args.shelf.now in
+    subst (λ (command : Command). Works (request_of command) c.args.instance.now shelf shelf c.report-in-Export.result) (sym c.in-Export.is) (c.report-in-Export.ensures (string_bytes c.in-Export.name) c.in-Export.mvp shelf)
 
 pub returns-in_err-report-in-Solve-clause-works : goal.returns-in_err-report-in-Solve-clause-works
 returns-in_err-report-in-Solve-clause-works g c =

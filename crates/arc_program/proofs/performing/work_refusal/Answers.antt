@@ -17,6 +17,12 @@ returns-in-Large c = λ before between after out I given has keeps works.
     let w : Works request I between after (Err (work.Large c.in-Large.t)) = subst (λ (f : WorkFault). Works request I between after (Err f)) c.in-Large.is works in
     (c.in-Ok.ensures, record { makes = w.0; instance = I; given = given; large = w.1 }, subst (λ (s : ShelfSeen). HasReadInstance request before s) (sym w.2) has, refl)
 
+pub returns-in-LargeJoint : goal.returns-in-LargeJoint
+returns-in-LargeJoint c = λ before between after out I given has keeps works.
+    let request : Request = request_of c.args.command in
+    let w : Works request I between after (Err work.LargeJoint) = subst (λ (f : WorkFault). Works request I between after (Err f)) c.in-LargeJoint.is works in
+    (c.in-Ok.ensures, record { makes = w.0; instance = I; given = given; large = w.1 }, subst (λ (s : ShelfSeen). HasReadInstance request before s) (sym w.2) has, refl)
+
 pub returns-in-Unread : goal.returns-in-Unread
 returns-in-Unread c = λ before between after out I given has keeps works.
     let request : Request = request_of c.args.command in
