@@ -40,6 +40,19 @@ fn run_over<R: Threads + Sync>(
     )
 }
 
+/// Whether a certificate is refused in this line, read at once and byte by byte.
+pub fn refused_so<R: Threads + Sync>(
+    rt: &R,
+    alloc: Global,
+    certificate: &str,
+    said: &str,
+) -> Result<bool, AllocError> {
+    let at_once = run_over(rt, alloc, certificate, usize::MAX, 0, 0, 0)?;
+    let by_bytes = run_over(rt, alloc, certificate, 1, 0, 0, 0)?;
+    let refused = Status::BadCertificate;
+    Ok(at_once.is(refused, "", said) && by_bytes.is(refused, "", said))
+}
+
 #[test]
 fn certificates_are_accepted_or_refused(rt: HostRuntime) -> Result<(), Fail> {
     for (certificate, status, out, said) in [

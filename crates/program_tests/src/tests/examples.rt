@@ -8,6 +8,14 @@ const MODEL: &str = "NAME vpack\nROWS\n N COST\n E N1_1\n E N1_2\n E N1_3\n G D1
      \x20F5 D1 1\n MARK2 'MARKER' 'INTEND'\nRHS\n RHS D1 3\nBOUNDS\n UP BND Z1 3\n UP BND F2 3\n\
      \x20UP BND F3 3\n UP BND F4 3\n UP BND F5 3\nENDATA\n";
 
+/// The model over one graph for two types, the first of which has one bin.
+const JOINT_MODEL: &str = "NAME vpack\nROWS\n N COST\n E N1\n E N2\n E N3\n E N4\n G D1\nCOLUMNS\n\
+     \x20MARK1 'MARKER' 'INTORG'\n Z1 COST 1\n Z1 N1 1\n Z1 N3 -1\n Z2 COST 5\n Z2 N1 1\n\
+     \x20Z2 N4 -1\n F3 N1 -1\n F3 N2 1\n F3 D1 1\n F4 N1 -1\n F4 N3 1\n F5 N1 -1\n F5 N4 1\n\
+     \x20F6 N2 -1\n F6 N3 1\n F7 N2 -1\n F7 N4 1\n MARK2 'MARKER' 'INTEND'\nRHS\n RHS D1 2\n\
+     BOUNDS\n UP BND Z1 1\n UP BND Z2 2\n UP BND F3 2\n UP BND F4 2\n UP BND F5 2\n\
+     \x20UP BND F6 2\n UP BND F7 2\nENDATA\n";
+
 #[test]
 fn reports_and_refusals_come_out(rt: HostRuntime) -> Result<(), Fail> {
     for (words, text, status, out, said) in [
@@ -38,6 +46,13 @@ fn reports_and_refusals_come_out(rt: HostRuntime) -> Result<(), Fail> {
             "1 1 2 3 -1 1 1 3 1",
             Status::Done,
             MODEL,
+            "",
+        ),
+        (
+            "export --joint --mvp a",
+            "1 2 10 1 1 10 5 -1 1 1 2 6",
+            Status::Done,
+            JOINT_MODEL,
             "",
         ),
         (
@@ -92,6 +107,20 @@ fn reports_and_refusals_come_out(rt: HostRuntime) -> Result<(), Fail> {
             "vpack: word 3: no such option\n",
         ),
         (
+            "export --joint=a b",
+            "",
+            Status::Usage,
+            "",
+            "vpack: word 2: bad value\n",
+        ),
+        (
+            "solve a --joint",
+            "",
+            Status::Usage,
+            "",
+            "vpack: word 3: no such option\n",
+        ),
+        (
             "solve -- -x",
             "",
             Status::ReadFault,
@@ -125,6 +154,13 @@ fn reports_and_refusals_come_out(rt: HostRuntime) -> Result<(), Fail> {
             Status::BadInstance,
             "",
             "vpack: a: token 5: out of range\n",
+        ),
+        (
+            "export --joint a",
+            "1 10 1 6",
+            Status::BadInstance,
+            "",
+            "vpack: a: token 5: missing\n",
         ),
         (
             "compile a",

@@ -1,5 +1,6 @@
-//! Texts that try the limits of instances.
+//! Texts that try the limits of instances and of certificates.
 
+use crate::tests::certificates::refused_so;
 use crate::tests::{ends_so, run_over};
 use arc_program::Status;
 use std::test::Fail;
@@ -67,5 +68,59 @@ fn bytes_that_are_no_text_are_told(rt: HostRuntime) -> Result<(), Fail> {
     let outcome = run_over(&rt, rt.alloc(), "solve a", "a", &[255], usize::MAX)?;
     let said = "vpack: a: token 1: not a number\n";
     assert!(rt; outcome.is(Status::BadInstance, "", said));
+    Ok(())
+}
+
+#[test]
+fn certificates_at_the_limits_are_told(rt: HostRuntime) -> Result<(), Fail> {
+    for (certificate, said) in [
+        (
+            "vpack-certificate 1\nclaim bound 4611686018427387905\n",
+            "vpack: c: line 2: bad text\n",
+        ),
+        (
+            "vpack-certificate 1\nclaim bound 6\nleaf 4611686018427387905 0 0\n",
+            "vpack: c: line 3: bad text\n",
+        ),
+        (
+            "vpack-certificate 1\nclaim bound 6\nleaf 1 1 1 4611686018427387904 0\n",
+            "vpack: c: line 3: type 1 gains too much\n",
+        ),
+        (
+            "vpack-certificate 1\nclaim bound 6\nleaf 1 1 1 0 0\n",
+            "vpack: c: line 3: bad text\n",
+        ),
+        (
+            "vpack-certificate 1\nclaim bound 6\nleaf 1 2 2 1 1 1 0\n",
+            "vpack: c: line 3: bad text\n",
+        ),
+        (
+            "vpack-certificate 1\nclaim bound 6\nleaf 1 0 1 6 1\n",
+            "vpack: c: line 3: no such arc\n",
+        ),
+        (
+            "vpack-certificate 1\nclaim bound 6\nleaf 0 0 0\n",
+            "vpack: c: line 3: does not close\n",
+        ),
+        (
+            "vpack-certificate 1\nclaim empty\nleaf 1 0 0\n",
+            "vpack: c: line 3: does not close\n",
+        ),
+        (
+            "vpack-certificate 1\nclaim bound 6\nsplit 4294967295 0\n",
+            "vpack: c: line 3: no such arc\n",
+        ),
+        (
+            "vpack-certificate 1\nclaim bound 6\nsplit 4294967296 0\n",
+            "vpack: c: line 3: bad text\n",
+        ),
+        (
+            "vpack-certificate 1\nclaim bound 6\nsplit 1 0\nsplit 1 0\n",
+            "vpack: c: line 4: not a split\n",
+        ),
+    ] {
+        let so = refused_so(&rt, rt.alloc(), certificate, said)?;
+        assert!(rt; so, "{certificate}");
+    }
     Ok(())
 }

@@ -63,6 +63,7 @@ fn no_call_is_told_to_fail(rt: HostRuntime) -> Result<(), Fail> {
         ("check --mvp a s", Status::BadCertificate, false),
         ("check --mvp a b", Status::BadCertificate, false),
         ("export --mvp a", Status::Done, false),
+        ("export --joint --mvp a", Status::Done, false),
         ("extract --mvp a s", Status::Done, false),
         ("extract --mvp a d", Status::BadSolution, false),
         ("extract --mvp a b", Status::BadSolution, false),
