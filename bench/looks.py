@@ -1,6 +1,7 @@
 """The reports of solve, compile, export and extract, looked at from outside, for bench/fuzz."""
 import re
 
+from joint import joint_lines
 from layouts import expect
 
 
@@ -128,7 +129,14 @@ def look_at_export(instance, status, lines):
         expect(bounds[column][1] == min(instance.units, instance.units if limit is None else limit), "another bound: " + column)
 
 
-LOOKS = {"compile": look_at_compile, "export": look_at_export}
+def look_at_joint(instance, status, lines):
+    """Takes a joint model apart as any other, and makes that of a small instance once more."""
+    look_at_export(instance, status, lines)
+    again = joint_lines(instance)
+    expect(again is None or again == lines, "another joint model than that made here")
+
+
+LOOKS = {("compile",): look_at_compile, ("export",): look_at_export, ("export", "--joint"): look_at_joint}
 
 
 def values_of(text, columns):
