@@ -182,12 +182,51 @@ fn cut<T: Line>(lines: &[T], share: u32, workers: u32) -> usize
     requires { 0 < workers }
     ensures { result ≤ length lines.now }
 {
-    let leaves = leaf_count(lines).saturating_mul(share as usize) / workers as usize;
-    behind_leaves(lines, leaves)
+    let leaves = leaf_count(lines).saturating_mul(share as usize);
+    behind_leaves(lines, leaves.div_ceil(workers as usize))
 }
 
-/// Runs of lines judged side by side, as long as there are workers and leaves. What stands behind a run is known before its
-/// leaves are judged, as long as they hold; where they do not, nothing behind it counts.
+/// To how many workers one thread hands out runs, one after the other. Of more, half get theirs from a thread of its own.
+const ROW: u32 = 8;
+
+/// To how many of the workers the first run goes: to one, or to half of many.
+fn first_share(workers: u32) -> u32
+    requires { 1 < workers }
+    ensures some { 1 ≤ result }
+    ensures fewer { result < workers }
+{
+    if workers <= ROW { 1 } else { workers / 2 }
+}
+
+/// `alone`, by a thread of its own, while this one waits.
+fn apart<R: Threads + Sync, G: Gate + Sync, T: Line>(
+    rt: &R,
+    alloc: Global,
+    instance: &Instance,
+    graph: &FlowGraph,
+    gate: &G,
+    standing: &Standing,
+    lines: &[T],
+    leaves: u64,
+) -> Result<Judged, Memory>
+    requires graph { GraphOf instance.now graph.now }
+    requires root { length standing.now.root ≡ length (numbered graph.now) }
+    requires few { standing.now.progress.count + length lines.now ≤ most_lines }
+    ensures { IfOk result (λ judged. AreTold instance.now graph.now standing.now (map T.told lines.now) judged.refusal judged.standing) }
+{
+    let (judged, ()) = join(
+        rt,
+        || -> Result<Judged, Memory>
+            requires { IsSync G.row × IsSync T.row × GraphOf instance.now graph.now × (length standing.now.root ≡ length (numbered graph.now)) × (standing.now.progress.count + length lines.now ≤ most_lines) }
+            ensures { IfOk result (λ judged. AreTold instance.entry.now graph.entry.now standing.entry.now (map T.told lines.entry.now) judged.refusal judged.standing) }
+        { alone(alloc, instance, graph, gate, standing, lines, leaves) },
+        || {},
+    );
+    judged
+}
+
+/// Runs of lines judged side by side, as long as there are workers and leaves; by this thread where there is one worker.
+#[cycle(sharing)]
 pub(crate) fn side_by_side<R: Threads + Sync, G: Gate + Sync, T: Line>(
     rt: &R,
     alloc: Global,
@@ -207,7 +246,35 @@ pub(crate) fn side_by_side<R: Threads + Sync, G: Gate + Sync, T: Line>(
     if workers <= 1 || leaf_count(lines) <= 1 {
         return alone(alloc, instance, graph, gate, standing, lines, leaves);
     }
-    let share = workers / 2;
+    hand_out(
+        rt, alloc, instance, graph, gate, standing, lines, leaves, workers,
+    )
+}
+
+/// Runs of lines handed out to threads of their own, while this one waits: the processor on which it works would else be taken for a
+/// free one. What stands behind a run is known before its leaves are judged, as long as they hold; where they do not,
+/// nothing behind it counts.
+#[cycle(sharing)]
+fn hand_out<R: Threads + Sync, G: Gate + Sync, T: Line>(
+    rt: &R,
+    alloc: Global,
+    instance: &Instance,
+    graph: &FlowGraph,
+    gate: &G,
+    standing: &Standing,
+    lines: &[T],
+    leaves: u64,
+    workers: u32,
+) -> Result<Judged, Memory>
+    requires graph { GraphOf instance.now graph.now }
+    requires root { length standing.now.root ≡ length (numbered graph.now) }
+    requires few { standing.now.progress.count + length lines.now ≤ most_lines }
+    ensures { IfOk result (λ judged. AreTold instance.now graph.now standing.now (map T.told lines.now) judged.refusal judged.standing) }
+{
+    if workers <= 1 || leaf_count(lines) <= 1 {
+        return apart(rt, alloc, instance, graph, gate, standing, lines, leaves);
+    }
+    let share = first_share(workers);
     let others = workers - share;
     let (first, last) = lines.split_at(cut(lines, share, workers));
     let ahead = match ahead_of(standing, first) {
@@ -230,7 +297,7 @@ pub(crate) fn side_by_side<R: Threads + Sync, G: Gate + Sync, T: Line>(
         || -> Result<Judged, Memory>
             requires { IsSync R.row × IsSync G.row × IsSync T.row × GraphOf instance.now graph.now × (length ahead.now.root ≡ length (numbered graph.now)) × (ahead.now.progress.count + length last.now ≤ most_lines) }
             ensures { IfOk result (λ judged. AreTold instance.entry.now graph.entry.now ahead.entry.now (map T.told last.entry.now) judged.refusal judged.standing) }
-        { side_by_side::<R, G, T>(rt, alloc, instance, graph, gate, ahead, last, more, others) },
+        { hand_out::<R, G, T>(rt, alloc, instance, graph, gate, ahead, last, more, others) },
     );
     joined(left, right)
 }

@@ -3,10 +3,10 @@ use Rattle.std.specs.Prelude.{IfOk}
 use Rattle.cert_text.specs.declared.lines.CertLine.{CertLine}
 use Rattle.cert_checker.specs.inner.Runs.{AreTold, behind}
 use Rattle.cert_checker.proofs.ToldLines.{both_parts, told_from}
-use Rattle.cert_checker.proofs.runs.+fn-side_by_side-join+arg2+fn-side_by_side-join+arg3+side_by_side.Goals as goal
+use Rattle.cert_checker.proofs.runs.+sharing.Goals as goal
 
-pub returns : goal.returns
-returns g t c =
+pub hand_out-returns : goal.hand_out-returns
+hand_out-returns g t c =
     let I = c.args.instance.now in
     let graph = c.args.graph.now in
     let first = c.split_at.result.0.now in
