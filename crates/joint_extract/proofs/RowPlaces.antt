@@ -16,7 +16,7 @@ use Rattle.flow_graph.proofs.ArcKinds.{among_list, kind_cases, nothing, some_sam
 use Rattle.flow_graph.proofs.Places.{slice_get-append-add, slice_get-append-left}
 use Rattle.flow_model.specs.Flows.{up_to, weigh_arcs}
 use Rattle.flow_model.proofs.Solutions.{length_up_to, up_to_at}
-use Rattle.pattern_extract.specs.inner.Walks.{weigh}
+use Rattle.flow_model.specs.Sums.{weigh}
 use Rattle.pattern_extract.proofs.Weights.{weigh_arcs-weigh}
 use Rattle.joint_arcs.specs.Joined.{JointValue, Climbs, IsJoint, head_of, numbered, tail_of}
 use Rattle.joint_arcs.proofs.Rows.{bin_row, numbered_length}

@@ -3,12 +3,13 @@
 ghost use Rattle.std.specs.Prelude.{◌≡◌, ◌≢◌, ℕ, ◌-◌, ◌<◌, ◌≤◌, ◌^◌, IfOk, length, slice_index};
 ghost use Rattle.packing_laws.specs.Instances.{IsAmong};
 ghost use Rattle.joint_arcs.specs.Joined.{numbered};
-ghost use Rattle.joint_extract.specs.inner.Circuits.{AreBinsOf, AreConserved, AreCursors, AreDrawn, HaveLeft, IsTaken};
+ghost use Rattle.joint_extract.specs.inner.Circuits.{AreBinsOf, AreConserved, AreCursors, AreDrawn};
 
 use crate::walks::{first_places, walk_round};
 use arc_num::Memory;
 use joint_arcs::JointArcs;
 use packing_laws::Bin;
+use pattern_extract::take_off;
 use std::alloc::Global;
 
 /// Bins that hold all that the values carry, in time linear in the arcs and in the lengths of the circuits: each circuit uses
@@ -62,14 +63,4 @@ fn draw_type(
         bins.push(circuit.bin)?;
     }
     Ok(())
-}
-
-/// Takes so many units off each of the arcs.
-fn take_off(left: &mut [u64], arcs: &[u32], times: u64)
-    requires left { HaveLeft left.old times arcs.now }
-    ensures { IsTaken left.old left.new times arcs.now }
-{
-    for arc in arcs {
-        left[*arc as usize - 1] -= times;
-    }
 }

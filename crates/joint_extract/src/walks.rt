@@ -1,17 +1,16 @@
 //! Walks from the source to a target over arcs on which something is left.
 
-ghost use Rattle.std.specs.Prelude.{◌≡◌, ℕ, ◌≤◌, ◌<◌, ◌^◌, ◌++◌, IfOk, List, length, slice_index};
-ghost use Rattle.std.specs.Option.{option_to_list};
+ghost use Rattle.std.specs.Prelude.{◌≡◌, ℕ, ◌≤◌, ◌<◌, ◌^◌, IfOk, List, length, slice_index};
 ghost use Rattle.packing_laws.specs.Instances.{IsAmong};
 ghost use Rattle.joint_arcs.specs.Joined.{head_of, numbered};
-ghost use Rattle.pattern_extract.specs.Extracts.{unit_on};
 ghost use Rattle.joint_extract.specs.inner.Circuits.{AreConserved, AreCursors, HasBins, HaveLeft, IsCircuit, IsWayOn, start_of};
 
 use crate::circuits::Circuit;
 use arc_num::{Listed, Memory};
 use flow_graph::ArcKind;
 use joint_arcs::JointArcs;
-use packing_laws::{Bin, Count, Counts};
+use packing_laws::{Bin, Counts};
+use pattern_extract::put_unit;
 use std::alloc::Global;
 
 /// A circuit over the first way on from each node, as often as there is something left on all of its arcs. Its type is that of
@@ -128,19 +127,4 @@ fn head(kind: &ArcKind) -> u32
         ArcKind::Bin { .. } => 1,
         ArcKind::Loss { head, .. } | ArcKind::Piece { head, .. } => head,
     }
-}
-
-/// Appends the unit that an arc carries, if it carries one.
-fn put_unit(counts: &mut Vec<Count>, kind: &ArcKind) -> Result<(), Memory>
-    ensures { IfOk result (λ _. counts.new.items ≡ counts.old.items ++ option_to_list (unit_on kind.now)) }
-{
-    match *kind {
-        ArcKind::Bin { .. } | ArcKind::Loss { .. } => {}
-        ArcKind::Piece { item, form, .. } => counts.push(Count {
-            item,
-            form,
-            count: 1,
-        })?,
-    }
-    Ok(())
 }

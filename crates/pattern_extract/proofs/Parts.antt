@@ -1,13 +1,12 @@
 -- Bins that are parts of given ones.
-use Rattle.std.proofs.Common.{suc, zero, ◌≡◌, ℕ, ◌+◌, ◌-◌, ◌<◌, ◌≤◌, Bool, true, false, cond, ◌==◌, List, [], ◌∷◌, ◌++◌, map, refl, sym, ap, ◌∙◌, subst, append_assoc, arith, All, ⊎_elim}
-use Rattle.std.specs.Prelude.{Option, Some, None, sum_by, slice_get}
+use Rattle.std.proofs.Common.{suc, zero, ◌≡◌, ℕ, ◌+◌, ◌-◌, ◌<◌, Bool, true, false, cond, ◌==◌, List, [], ◌∷◌, ◌++◌, map, refl, sym, ap, ◌∙◌, subst, append_assoc, arith, All, ⊎_elim}
+use Rattle.std.specs.Prelude.{Some, slice_get}
 use Rattle.std.proofs.lemmas.Bool.{cases_eq, eq-eqb, ne_eqb}
 use Rattle.std.proofs.lemmas.List.{map-append}
 use Rattle.std.proofs.lemmas.List.Sums.{sum_by-cons, sum_by-append}
 use Rattle.std.proofs.lemmas.List.Elements.{All-nil, All-cons, All-append, All-head, All-tail, All-map, All-weaker}
 use Rattle.packing_laws.specs.declared.packings.Bin.{Bin}
 use Rattle.packing_laws.specs.Packings.{Content, count_of_form}
-use Rattle.packing_laws.proofs.TidyParts.{sum_by-map}
 use Rattle.pattern_extract.specs.Trims.{refilled, IsBelow, IsBinPart, times_of, AreParts}
 
 abbrev pub Part : Type 0

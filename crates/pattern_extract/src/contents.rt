@@ -1,12 +1,12 @@
 //! The bins of runs, with what their paths carry.
 
-ghost use Rattle.std.specs.Prelude.{◌≡◌, ◌<◌, ◌^◌, ◌++◌, IfOk, All, length, map};
-ghost use Rattle.std.specs.Option.{option_to_list};
+ghost use Rattle.std.specs.Prelude.{◌≡◌, ◌<◌, ◌^◌, IfOk, All, length, map};
 ghost use Rattle.packing_laws.specs.Instances.{IsAmong};
 ghost use Rattle.pattern_extract.specs.Runs.{IsRun};
-ghost use Rattle.pattern_extract.specs.Extracts.{bin_of, unit_on, units_along};
+ghost use Rattle.pattern_extract.specs.Extracts.{bin_of, units_along};
 
 use crate::runs::PathRun;
+use crate::units::put_unit;
 use arc_num::Memory;
 use flow_graph::{ArcKind, FlowGraph};
 use packing_laws::{Bin, Count, Counts};
@@ -54,19 +54,4 @@ fn path_counts(alloc: Global, row: &[ArcKind], arcs: &[u32]) -> Result<Vec<Count
         put_unit(&mut counts, &row[*arc as usize - 1])?;
     }
     Ok(counts)
-}
-
-/// Appends the unit that an arc carries, if it carries one.
-fn put_unit(counts: &mut Vec<Count>, kind: &ArcKind) -> Result<(), Memory>
-    ensures { IfOk result (λ _. counts.new.items ≡ counts.old.items ++ option_to_list (unit_on kind.now)) }
-{
-    match *kind {
-        ArcKind::Bin { .. } | ArcKind::Loss { .. } => {}
-        ArcKind::Piece { item, form, .. } => counts.push(Count {
-            item,
-            form,
-            count: 1,
-        })?,
-    }
-    Ok(())
 }

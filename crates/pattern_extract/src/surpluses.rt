@@ -1,14 +1,14 @@
 //! How much more than is asked for a flow carries.
 
-ghost use Rattle.std.specs.Prelude.{◌≡◌, ℕ, ◌+◌, ◌*◌, ◌<◌, ◌^◌, if◌then◌else◌, IfOk, All, length};
+ghost use Rattle.std.specs.Prelude.{◌≡◌, ℕ, ◌+◌, IfOk, length};
 ghost use Rattle.packing_laws.specs.Instances.{IsAmong, item_at};
 ghost use Rattle.flow_graph.specs.Faithful.{GraphOf};
-ghost use Rattle.flow_model.specs.Flows.{IsFlow, carries, total_of, weigh_arcs};
+ghost use Rattle.flow_model.specs.Flows.{IsFlow, carries, total_of};
 ghost use Rattle.pattern_extract.specs.Trims.{surplus_at};
-ghost use Rattle.pattern_extract.specs.Extracts.{NamesItem};
 
+use crate::units::carried_units;
 use arc_num::Memory;
-use flow_graph::{ArcKind, FlowGraph};
+use flow_graph::FlowGraph;
 use packing_laws::Instance;
 use std::alloc::Global;
 
@@ -33,37 +33,4 @@ pub(crate) fn surpluses(
         units[place] -= u64::from(item.demand);
     }
     Ok(surplus)
-}
-
-/// How many units of each item the arcs carry.
-fn carried_units(
-    alloc: Global,
-    count: usize,
-    row: &[ArcKind],
-    values: &[u64],
-) -> Result<Vec<u64>, Memory>
-    requires size { length values.now ≡ length row.now }
-    requires items { All (NamesItem count) row.now }
-    requires small { (i : ℕ) → weigh_arcs (λ kind. if carries i kind then 1 else 0) row.now values.now < 2 ^ 64 }
-    ensures size { IfOk result (λ v. length v.items ≡ count) }
-    ensures value { IfOk result (λ v. (i : ℕ) → IsAmong i count → surplus_at v.items i ≡ weigh_arcs (λ kind. if carries i kind then 1 else 0) row.now values.now) }
-{
-    let mut carried = vec![in alloc; 0; count]?;
-    let units = carried.as_mut_slice();
-    for (place, kind) in row.iter().enumerate() {
-        add_units(units, kind, values[place]);
-    }
-    Ok(carried)
-}
-
-/// Adds what an arc with this value carries.
-fn add_units(units: &mut [u64], kind: &ArcKind, value: u64)
-    requires item { NamesItem (length units.old) kind.now }
-    requires small { (i : ℕ) → IsAmong i (length units.old) → surplus_at units.old i + (if carries i kind.now then 1 else 0) * value < 2 ^ 64 }
-    ensures { (i : ℕ) → IsAmong i (length units.old) → surplus_at units.new i ≡ surplus_at units.old i + (if carries i kind.now then 1 else 0) * value }
-{
-    match *kind {
-        ArcKind::Bin { .. } | ArcKind::Loss { .. } => {}
-        ArcKind::Piece { item, .. } => units[item as usize - 1] += value,
-    }
 }

@@ -1,9 +1,10 @@
 //! What a run takes off the arcs.
 
-ghost use Rattle.std.specs.Prelude.{◌≡◌, ◌≢◌, ◌-◌, ◌≤◌, All, AllPairs, length, slice_index};
+ghost use Rattle.std.specs.Prelude.{◌≡◌, ◌-◌, ◌≤◌, All, length, slice_index};
 ghost use Rattle.flow_graph.specs.Arcs.{numbered};
 ghost use Rattle.pattern_extract.specs.Runs.{IsRun};
-ghost use Rattle.pattern_extract.specs.inner.Walks.{IsTaken, circuit_of};
+ghost use Rattle.pattern_extract.specs.Takings.{HaveLeft, IsTaken};
+ghost use Rattle.pattern_extract.specs.inner.Walks.{circuit_of};
 
 use crate::runs::PathRun;
 use crate::walks::bin_arc;
@@ -22,10 +23,9 @@ pub(crate) fn take_run(graph: &FlowGraph, run: &PathRun, left: &mut [u64])
     take_off(left, run.arcs.as_slice(), run.times);
 }
 
-/// Takes so many units off each of the arcs.
-fn take_off(left: &mut [u64], arcs: &[u32], times: u64)
-    requires apart { AllPairs (λ a b. a ≢ b) arcs.now }
-    requires there { All (λ a. (1 ≤ a) × (a ≤ length left.old) × (times ≤ slice_index left.old (a - 1))) arcs.now }
+/// Takes so many units off each of the arcs, which are told by their numbers.
+pub fn take_off(left: &mut [u64], arcs: &[u32], times: u64)
+    requires left { HaveLeft left.old times arcs.now }
     ensures { IsTaken left.old left.new times arcs.now }
 {
     for arc in arcs {

@@ -1,6 +1,6 @@
 -- Circuits over arcs on which something is left: from the source to the target of a type, and back by the type's bin arc.
 -- Arcs are numbered from 1, and their places in the row count from 0.
-use Rattle.std.specs.Prelude.{◌≡◌, ◌≢◌, ℕ, ◌+◌, ◌-◌, ◌<◌, ◌≤◌, List, Some, All, AllPairs, length, map, sum_by, slice_get, slice_index}
+use Rattle.std.specs.Prelude.{◌≡◌, ℕ, ◌+◌, ◌-◌, ◌<◌, ◌≤◌, List, Some, All, map, sum_by, slice_get, slice_index}
 use Rattle.packing_laws.specs.declared.packings.Bin.{Bin as Alike}
 use Rattle.packing_laws.specs.Instances.{InstanceValue, IsAmong}
 use Rattle.flow_graph.specs.declared.parts.TypeArc.{TypeArc}
@@ -10,7 +10,7 @@ use Rattle.flow_graph.specs.Arcs.{kind_of}
 use Rattle.flow_graph.specs.Faithful.{content_of}
 use Rattle.flow_model.specs.Flows.{carries, weigh_arcs}
 use Rattle.pattern_extract.specs.Trims.{IsUsedBin, held, over_types}
-pub use Rattle.pattern_extract.specs.inner.Walks.{IsTaken, weight_along}
+pub use Rattle.pattern_extract.specs.Takings.{HaveLeft, IsTaken, weight_along}
 use Rattle.joint_arcs.specs.Joined.{JointValue, node_count, numbered}
 use Rattle.joint_arcs.specs.Faithful.{IsFaithful, IsTypePath}
 use Rattle.joint_arcs.specs.Flows.{IsConserved, total_of}
@@ -45,11 +45,6 @@ AreCursors g left cursors = (v k : ℕ) → 1 ≤ v → IsWayOn (numbered g) lef
 -- a weight of each arc, by its place
 abbrev pub row_weight : (ArcKind → ℕ) → JointValue → ℕ → ℕ
 row_weight w g k = slice_index (map w (numbered g)) k
-
--- no arc stands twice among these, and each has so many units left
-pub record HaveLeft (left : List ℕ) (times : ℕ) (arcs : List ℕ) : Type 0 where
-  pub apart : AllPairs (λ a b. a ≢ b) arcs
-  pub each : All (λ a. (1 ≤ a) × (a ≤ length left) × (times ≤ slice_index left (a - 1))) arcs
 
 -- the arcs are those of a path to the target of the bin's type and the type's bin arc, and the bin holds what the path carries
 pub record IsCircuit (g : JointValue) (bin : Alike) (arcs : List ℕ) : Type 0 where

@@ -6,17 +6,9 @@ use Rattle.flow_graph.specs.declared.parts.ArcKind.{ArcKind}
 use Rattle.flow_graph.specs.declared.parts.ArcKind.TheVariants.{Bin, Loss, Piece}
 use Rattle.flow_graph.specs.Arcs.{TypeValue, flow_type, numbered, first_arc}
 use Rattle.flow_graph.specs.Faithful.{IsPath, AreNumbersOf}
-pub use Rattle.flow_model.specs.Sums.{weigh}
+pub use Rattle.pattern_extract.specs.Takings.{weigh, weight_along, IsTaken}
 use Rattle.pattern_extract.specs.declared.runs.PathRun.{PathRun}
 use Rattle.pattern_extract.specs.Runs.{AreConserved, IsRun}
-
--- f at the places of the arcs with these numbers, added up
-abbrev pub weight_along : (ℕ → ℕ) → List ℕ → ℕ
-weight_along f numbers = sum_by (λ a. f (a - 1)) numbers
-
--- under any weights of the places, what was there is what is left and so many times what lies along the arcs
-abbrev pub IsTaken : List ℕ → List ℕ → ℕ → List ℕ → Type 0
-IsTaken old new times numbers = (f : ℕ → ℕ) → weigh f old ≡ weigh f new + times * weight_along f numbers
 
 -- the arcs of a run: the bin arc of its type, and its path
 abbrev pub circuit_of : List TypeValue → PathRun → List ℕ

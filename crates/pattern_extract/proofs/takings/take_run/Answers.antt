@@ -1,7 +1,6 @@
-use Rattle.std.proofs.Common.{◌≡◌, ◌≢◌, ◌-◌, ◌<◌, ◌≤◌, ℕ, List, All, length, get_or, set, ap, sym, subst}
-use Rattle.std.specs.Prelude.{AllPairs}
+use Rattle.std.proofs.Common.{◌≡◌, ◌-◌, ◌<◌, ◌≤◌, ℕ, List, length, get_or, set, ap, sym, subst}
 use Rattle.flow_graph.specs.Arcs.{first_arc}
-use Rattle.pattern_extract.specs.inner.Walks.{IsTaken}
+use Rattle.pattern_extract.specs.Takings.{HaveLeft, IsTaken}
 use Rattle.pattern_extract.proofs.Moves.{bin-within, bin-most, path-apart, path-there, taken-both}
 use Rattle.pattern_extract.proofs.takings.take_run.Goals as goal
 
@@ -11,18 +10,20 @@ bounds-left-bin c = bin-within c.args.graph.now c.args.run.now c.args.left.now (
 pub bounds-left-bin-2 : goal.bounds-left-bin-2
 bounds-left-bin-2 c = bin-within c.args.graph.now c.args.run.now c.args.left.now (c.bin_arc.result - 1) c.known.ensures c.requires.run c.requires.size c.requires.left (ap (λ (n : ℕ). n - 1) c.bin_arc.ensures)
 
-pub take_off-requires-clause-apart : goal.take_off-requires-clause-apart
-take_off-requires-clause-apart c =
-    subst (AllPairs (λ n m. n ≢ m)) (sym c.as_slice.ensures)
-    (path-apart c.args.graph.now c.args.run.now c.args.left.now (c.bin_arc.result - 1) c.known.ensures c.requires.run c.requires.size c.requires.left (ap (λ (n : ℕ). n - 1) c.bin_arc.ensures))
-
-pub take_off-requires-clause-there : goal.take_off-requires-clause-there
-take_off-requires-clause-there c =
-    let b = c.bin_arc.result - 1 in
+pub take_off-requires : goal.take_off-requires
+take_off-requires c =
+    let g = c.args.graph.now in
+    let run = c.args.run.now in
     let old = c.args.left.now in
-    let times = c.args.run.now.times in
-    subst (All (λ a. (1 ≤ a) × (a ≤ length (set old b (get_or old b 0 - times))) × (times ≤ get_or (set old b (get_or old b 0 - times)) (a - 1) 0))) (sym c.as_slice.ensures)
-    (path-there c.args.graph.now c.args.run.now old b c.known.ensures c.requires.run c.requires.size c.requires.left (ap (λ (n : ℕ). n - 1) c.bin_arc.ensures))
+    let b = c.bin_arc.result - 1 in
+    let bin = ap (λ (n : ℕ). n - 1) c.bin_arc.ensures in
+    record {
+      left = subst (HaveLeft (set old b (get_or old b 0 - run.times)) run.times) (sym c.as_slice.ensures)
+          (record {
+            apart = path-apart g run old b c.known.ensures c.requires.run c.requires.size c.requires.left bin;
+            each = path-there g run old b c.known.ensures c.requires.run c.requires.size c.requires.left bin;
+          });
+    }
 
 pub returns : goal.returns
 returns c =

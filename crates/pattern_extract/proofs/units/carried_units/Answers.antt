@@ -1,7 +1,7 @@
 use Rattle.std.proofs.Common.{◌≡◌, ◌∙◌, ℕ, length, ap, arith}
 use Rattle.pattern_extract.specs.Trims.{surplus_at}
 use Rattle.pattern_extract.proofs.Surplus.{units-fit}
-use Rattle.pattern_extract.proofs.surpluses.carried_units.Goals as goal
+use Rattle.pattern_extract.proofs.units.carried_units.Goals as goal
 
 pub add_units-requires-clause-small : goal.add_units-requires-clause-small
 add_units-requires-clause-small c i among =
