@@ -13,11 +13,11 @@ ghost use Rattle.path_prices.specs.Scratches.{IsScratchOf};
 ghost use Rattle.needs_check.specs.Rooms.{IsNeedRoomOf};
 ghost use Rattle.cert_checker.specs.inner.Judging.{KeepsPlace, IsFirstCause};
 
-use crate::leaves::{LeafFault, check_leaf};
 use cert_laws::Cause;
 use cert_text::{ArcPart, ArcPrice, Claim, ItemPrice, Need, Prices, TreeLine};
 use flow_graph::FlowGraph;
 use flow_model::FlowBox;
+use leaf_check::{LeafFault, check_leaf};
 use needs_check::{NeedRoom, check_need};
 use packing_laws::Instance;
 use path_prices::Scratch;

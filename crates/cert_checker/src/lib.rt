@@ -4,7 +4,6 @@
 mod checker;
 mod faults;
 mod judging;
-mod leaves;
 mod lines;
 mod places;
 mod runs;
@@ -16,6 +15,6 @@ mod whole;
 
 pub use checker::Checker;
 pub use faults::CheckFault;
-pub use leaves::{LeafFault, check_leaf};
+pub use leaf_check::{LeafFault, check_leaf};
 pub use needs_check::{NeedRoom, check_need};
 pub use whole::{check, check_gated};

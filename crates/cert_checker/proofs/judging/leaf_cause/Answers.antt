@@ -1,8 +1,8 @@
 use Rattle.std.proofs.Common.{rules}
 use Rattle.cert_text.specs.declared.lines.TreeLine.TheVariants.{Leaf}
 use Rattle.cert_laws.specs.Shown.{Closes}
-use Rattle.cert_checker.specs.declared.leaves.LeafFault.TheVariants as leaf
-use Rattle.cert_checker.specs.Leaves.{IsLeafFault}
+use Rattle.leaf_check.specs.declared.leaves.LeafFault.TheVariants as leaf
+use Rattle.leaf_check.specs.Leaves.{IsLeafFault}
 use Rattle.cert_checker.specs.inner.Judging.{KeepsPlace}
 use Rattle.cert_checker.proofs.FirstCauses.{at_no_item, at_no_arc, at_gain, at_weak, none}
 use Rattle.cert_checker.proofs.judging.leaf_cause.Goals as goal

@@ -2,7 +2,7 @@
 use Rattle.std.proofs.Common.{refl, subst, rules}
 use Rattle.std.specs.Prelude.{IsTrue}
 use Rattle.path_prices.specs.Excess.{FirstExcess}
-use Rattle.cert_checker.proofs.leaves.check_leaf.Goals as goal
+use Rattle.leaf_check.proofs.leaves.check_leaf.Goals as goal
 
 pub returns-then-is_strong-clause-none : goal.returns-then-is_strong-clause-none
 returns-then-is_strong-clause-none c =

@@ -5,7 +5,7 @@ use Rattle.cert_laws.specs.Rules.{demands_of}
 use Rattle.path_prices.specs.Worth.{IsEnough, worth_of}
 use Rattle.std.proofs.lemmas.Int.{to_z-of_z}
 use mir.Val.{SFits}
-use Rattle.cert_checker.proofs.leaves.is_strong.Goals as goal
+use Rattle.leaf_check.proofs.leaves.is_strong.Goals as goal
 
 pub returns : goal.returns
 returns c =

@@ -1,5 +1,3 @@
-//! Whether prices close a box.
-
 ghost use Rattle.std.specs.Prelude.{◌≡◌, ◌↔◌, IfSome, IsNone, IsTrue, length};
 ghost use Rattle.flow_graph.specs.Arcs.{numbered};
 ghost use Rattle.flow_graph.specs.Faithful.{GraphOf};
@@ -7,8 +5,8 @@ ghost use Rattle.cert_text.specs.Lines.{ArePrices, IsClaim};
 ghost use Rattle.cert_text.specs.declared.lines.TreeLine.{TreeLine};
 ghost use Rattle.cert_laws.specs.Rules.{IsStrong};
 ghost use Rattle.cert_laws.specs.Shown.{Closes};
-ghost use Rattle.cert_checker.specs.Leaves.{IsLeafFault};
 ghost use Rattle.path_prices.specs.Scratches.{IsScratchOf, NamesAmong};
+ghost use Rattle.leaf_check.specs.Leaves.{IsLeafFault};
 
 use cert_text::{Claim, Prices};
 use flow_graph::FlowGraph;

@@ -6,8 +6,8 @@ use Rattle.cert_text.specs.declared.lines.Claim.{Claim}
 use Rattle.cert_text.specs.declared.lines.Prices.{Prices}
 use Rattle.cert_text.specs.declared.lines.TreeLine.TheVariants as place
 use Rattle.cert_laws.specs.Rules.{Box, GainsWithin, IsStrong}
-use Rattle.cert_checker.specs.declared.leaves.LeafFault.{LeafFault}
-use Rattle.cert_checker.specs.declared.leaves.LeafFault.TheVariants.{Gain, Weak}
+use Rattle.leaf_check.specs.declared.leaves.LeafFault.{LeafFault}
+use Rattle.leaf_check.specs.declared.leaves.LeafFault.TheVariants.{Gain, Weak}
 
 -- why they do not: bins of a type gain more than they cost, and of no type before it; or bins of no type do, but the prices
 -- are worth too little there
